@@ -1,0 +1,78 @@
+//! The board on the desk: its regions, its sectors, the layout of USD and its identity.
+
+/// A run of addresses that one lent memory answers for.
+#[derive(Clone, Copy, Debug, PartialEq, Eq)]
+pub struct Region {
+    /// The first address of the region.
+    pub first: u32,
+    /// The number of bytes in the region.
+    pub bytes: usize,
+}
+
+impl Region {
+    /// Gives the offset of `address` when all `count` bytes from there on lie in this region.
+    pub fn offset_of(&self, address: u32, count: usize) -> Option<usize> {
+        let offset = address.checked_sub(self.first)? as usize;
+        let end = offset.checked_add(count)?;
+        (offset < self.bytes && end <= self.bytes).then_some(offset)
+    }
+
+    /// Tells whether `address` lies in this region.
+    pub fn holds(&self, address: u32) -> bool {
+        self.offset_of(address, 1).is_some()
+    }
+}
+
+/// The number of sectors in flash.
+pub const SECTORS: usize = 32;
+
+/// The number of bytes in a sector.
+pub const SECTOR_BYTES: usize = 1_024;
+
+/// The flash, 32 sectors of 1,024 bytes.
+pub const FLASH: Region = Region {
+    first: 0x0800_0000,
+    bytes: SECTORS * SECTOR_BYTES,
+};
+
+/// The SRAM.
+pub const SRAM: Region = Region {
+    first: 0x2000_0000,
+    bytes: 8_192,
+};
+
+/// The user system data.
+pub const USD: Region = Region {
+    first: 0x1FFF_F800,
+    bytes: 64,
+};
+
+/// The value of an erased flash byte.
+pub const ERASED: u8 = 0xFF;
+
+/// The index of the USD byte that turns access protection off or on.
+pub const ACCESS_BYTE: usize = 0;
+
+/// The only value of the access byte that means protection off.
+pub const ACCESS_OPEN: u8 = 0xA5;
+
+/// The value that Access Protect puts into the access byte.
+pub const ACCESS_LOCKED: u8 = 0x00;
+
+/// The index of the first of the USD bytes that hold one bit per sector.
+pub const SECTOR_BITS_FIRST: usize = 8;
+
+/// The number of USD bytes that hold one bit per sector.
+pub const SECTOR_BITS_BYTES: usize = SECTORS / 8;
+
+/// The protocol version.
+pub const PROTOCOL_VERSION: u8 = 0x20;
+
+/// The two bytes of the bootloader version.
+pub const BID: [u8; 2] = [0x01, 0x07];
+
+/// The product ID.
+pub const PRODUCT_ID: u32 = 0x1234_5678;
+
+/// The project ID.
+pub const PROJECT_ID: u8 = 0x5A;

@@ -1,0 +1,134 @@
+//! The calls and the five causes for which they are refused.
+
+use crate::can;
+use crate::frame::{Frame, FRAME_BYTES};
+use crate::memories::Memories;
+use crate::reply::Reply;
+use crate::session::{Session, Step};
+use crate::uart;
+
+/// The number of an accepted call.
+pub const ACCEPTED: u8 = 0;
+
+/// The least length of a UART reply buffer: ACK and 256 bytes read.
+pub const UART_REPLY_BYTES: usize = 257;
+
+/// The least length of a CAN reply buffer, 363: a frame of ACK and 32 frames of eight read.
+pub const CAN_REPLY_BYTES: usize = 33 * FRAME_BYTES;
+
+/// Why a call is refused, in the order in which the causes are tested.
+#[derive(Clone, Copy, Debug, PartialEq, Eq)]
+#[repr(u8)]
+pub enum Cause {
+    /// Flash, SRAM or USD has a wrong length.
+    MemoryLength = 1,
+    /// The reply buffer is too short.
+    ReplyLength = 2,
+    /// The frame is not 11 bytes, its ID is over 0x7FF or its DLC over 8.
+    BadFrame = 3,
+    /// The session is unsound.
+    UnsoundSession = 4,
+    /// The board is running.
+    Running = 5,
+}
+
+/// What a call hands back: its number, the reply length and the next session.
+#[derive(Clone, Copy, Debug, PartialEq, Eq)]
+pub struct Outcome {
+    /// 0 for accepted, else the cause's number.
+    pub number: u8,
+    /// The reply length in bytes.
+    pub length: usize,
+    /// The next session.
+    pub session: Session,
+}
+
+impl Outcome {
+    /// The outcome of an in-place call that left this session.
+    fn of(called: Result<usize, Cause>, session: Session) -> Outcome {
+        match called {
+            Ok(length) => Outcome {
+                number: ACCEPTED,
+                length,
+                session,
+            },
+            Err(cause) => Outcome {
+                number: cause as u8,
+                length: 0,
+                session,
+            },
+        }
+    }
+}
+
+/// Takes one UART byte.
+pub fn take_uart_byte(
+    mut session: Session,
+    byte: u8,
+    memories: &mut Memories,
+    reply: &mut [u8],
+) -> Outcome {
+    let called = uart_byte_in_place(&mut session, byte, memories, reply);
+    Outcome::of(called, session)
+}
+
+/// Takes one CAN frame.
+pub fn take_can_frame(
+    mut session: Session,
+    frame: &[u8],
+    memories: &mut Memories,
+    reply: &mut [u8],
+) -> Outcome {
+    let called = can_frame_in_place(&mut session, frame, memories, reply);
+    Outcome::of(called, session)
+}
+
+/// Takes one UART byte, changing the session in place, and gives the reply length.
+pub fn uart_byte_in_place(
+    session: &mut Session,
+    byte: u8,
+    memories: &mut Memories,
+    reply: &mut [u8],
+) -> Result<usize, Cause> {
+    test_buffers(memories, reply, UART_REPLY_BYTES)?;
+    let step = session.sound_step().ok_or(Cause::UnsoundSession)?;
+    let mut reply = Reply::in_buffer(reply);
+    match step {
+        Step::Running => return Err(Cause::Running),
+        Step::None => uart::connect(session, byte, &mut reply),
+        Step::Uart(step) => uart::take_byte(step, session, byte, memories, &mut reply),
+        Step::Can(_) => {}
+    }
+    Ok(reply.length())
+}
+
+/// Takes one CAN frame, changing the session in place, and gives the reply length.
+pub fn can_frame_in_place(
+    session: &mut Session,
+    frame: &[u8],
+    memories: &mut Memories,
+    reply: &mut [u8],
+) -> Result<usize, Cause> {
+    test_buffers(memories, reply, CAN_REPLY_BYTES)?;
+    let frame = Frame::read(frame).ok_or(Cause::BadFrame)?;
+    let step = session.sound_step().ok_or(Cause::UnsoundSession)?;
+    let mut reply = Reply::in_buffer(reply);
+    match step {
+        Step::Running => return Err(Cause::Running),
+        Step::None => can::connect(session, &frame, &mut reply),
+        Step::Can(step) => can::take_frame(step, session, &frame, memories, &mut reply),
+        Step::Uart(_) => {}
+    }
+    Ok(reply.length())
+}
+
+/// Tests the lengths of the memories and then of the reply buffer.
+fn test_buffers(memories: &Memories, reply: &[u8], needed: usize) -> Result<(), Cause> {
+    if !memories.have_right_lengths() {
+        return Err(Cause::MemoryLength);
+    }
+    if reply.len() < needed {
+        return Err(Cause::ReplyLength);
+    }
+    Ok(())
+}

@@ -1,0 +1,228 @@
+//! The CAN conversation: a command frame, and for three commands the frames gathered after it.
+
+use crate::commands::{
+    count_sent_as_one_less, is_protected, EraseSelector, ACCESS_PROTECT, ACCESS_UNPROTECT,
+    CAN_LIST, DEVICE_ID, ERASE, FIRMWARE_CRC, GET_COMMANDS, GET_DEVICE_ID, GET_VERSION, JUMP,
+    PROTECT, READ_MEMORY, RESET_DEVICE, SPEED, UNPROTECT, VERSION, WRITE_MEMORY,
+};
+use crate::effects::{self, require, Refused};
+use crate::frame::{frame_bytes, Frame, FRAME_DATA_BYTES};
+use crate::memories::Memories;
+use crate::reply::{Reply, ACK, NACK};
+use crate::session::{CanStep, Next, Session, Step, HIGHEST_SPEED};
+
+/// The ID of the frame that connects CAN.
+const CONNECT_ID: u16 = 0x79;
+
+/// Reply frames that all bear one ID.
+struct Frames<'r, 'b> {
+    id: u16,
+    reply: &'r mut Reply<'b>,
+}
+
+impl Frames<'_, '_> {
+    /// Sends one frame of up to eight bytes, the unused ones 0.
+    fn send(&mut self, data: &[u8]) {
+        self.reply.extend(&frame_bytes(self.id, data));
+    }
+
+    /// Sends one byte a frame.
+    fn send_each(&mut self, bytes: &[u8]) {
+        for byte in bytes {
+            self.send(&[*byte]);
+        }
+    }
+}
+
+/// Takes one frame while no carrier is connected.
+pub fn connect(session: &mut Session, frame: &Frame, reply: &mut Reply) {
+    if frame.id == CONNECT_ID {
+        Frames {
+            id: CONNECT_ID,
+            reply,
+        }
+        .send(&[ACK]);
+        session.connect(Step::Can(CanStep::Idle));
+    }
+}
+
+/// Takes one frame of a connected session; a refusal ends with NACK and leaves the session idle.
+pub fn take_frame(
+    step: CanStep,
+    session: &mut Session,
+    frame: &Frame,
+    memories: &mut Memories,
+    reply: &mut Reply,
+) {
+    let mut frames = Frames {
+        id: running_id(step).unwrap_or(frame.id),
+        reply,
+    };
+    let taken = match step {
+        CanStep::Idle => command(frame, memories, &mut frames),
+        _ => gather(step, session, frame, memories, &mut frames),
+    };
+    session.go(taken.unwrap_or_else(|Refused| {
+        frames.send(&[NACK]);
+        Next::Idle
+    }));
+}
+
+/// The ID of the command that a gathering step stands for.
+fn running_id(step: CanStep) -> Option<u16> {
+    match step {
+        CanStep::Idle => None,
+        CanStep::WriteData => Some(WRITE_MEMORY),
+        CanStep::EraseList => Some(ERASE),
+        CanStep::ProtectList => Some(PROTECT),
+    }
+}
+
+/// The DLC that a command must have, if it needs one.
+fn needed_dlc(command: u16) -> Option<usize> {
+    match command {
+        READ_MEMORY | WRITE_MEMORY => Some(5),
+        JUMP => Some(4),
+        ERASE | SPEED => Some(2),
+        PROTECT => Some(1),
+        FIRMWARE_CRC => Some(6),
+        _ => None,
+    }
+}
+
+/// Takes a command frame: its ID is the command.
+fn command(frame: &Frame, memories: &mut Memories, frames: &mut Frames) -> Result<Next, Refused> {
+    require(needed_dlc(frame.id).is_none_or(|dlc| dlc == frame.dlc))?;
+    require(!(is_protected(frame.id) && effects::protection_is_on(memories)))?;
+    match frame.id {
+        GET_COMMANDS => Ok(tell(&[(CAN_LIST.len() - 1) as u8], &CAN_LIST, frames)),
+        GET_VERSION => Ok(tell(&[], &VERSION, frames)),
+        GET_DEVICE_ID => Ok(tell(&[], &DEVICE_ID, frames)),
+        SPEED => speed(frame, frames),
+        READ_MEMORY => read_memory(frame, memories, frames),
+        JUMP => jump(frame, frames),
+        WRITE_MEMORY => write_memory(frame, memories, frames),
+        ERASE => erase(frame, memories, frames),
+        PROTECT => {
+            let x = count_sent_as_one_less(frame.bytes[0]);
+            frames.send(&[ACK]);
+            Ok(Next::Enter(Step::Can(CanStep::ProtectList), x))
+        }
+        FIRMWARE_CRC => firmware_crc(frame, memories, frames),
+        UNPROTECT | ACCESS_PROTECT | ACCESS_UNPROTECT | RESET_DEVICE => {
+            frames.send_each(&[ACK, ACK]);
+            Ok(effects::resetting(frame.id, memories))
+        }
+        _ => Err(Refused),
+    }
+}
+
+/// Answers an asking command one byte a frame: ACK, its head and body, ACK.
+fn tell(head: &[u8], body: &[u8], frames: &mut Frames) -> Next {
+    frames.send(&[ACK]);
+    frames.send_each(head);
+    frames.send_each(body);
+    frames.send(&[ACK]);
+    Next::Idle
+}
+
+/// Takes 0x03: the first byte 0 to 3 is the new speed, the second byte is free.
+fn speed(frame: &Frame, frames: &mut Frames) -> Result<Next, Refused> {
+    let speed = frame.bytes[0];
+    require(speed <= HIGHEST_SPEED)?;
+    frames.send_each(&[ACK, ACK]);
+    Ok(Next::IdleAtSpeed(speed))
+}
+
+/// Takes 0x11: ACK, then frames of eight and a last with what remains.
+fn read_memory(frame: &Frame, memories: &Memories, frames: &mut Frames) -> Result<Next, Refused> {
+    let x = count_sent_as_one_less(frame.bytes[4]);
+    let data = effects::read(memories, frame.address(), x)?;
+    frames.send(&[ACK]);
+    for part in data.chunks(FRAME_DATA_BYTES) {
+        frames.send(part);
+    }
+    Ok(Next::Idle)
+}
+
+/// Takes 0x21: ACK and jump.
+fn jump(frame: &Frame, frames: &mut Frames) -> Result<Next, Refused> {
+    let running = effects::jump(frame.address())?;
+    frames.send(&[ACK]);
+    Ok(running)
+}
+
+/// Takes 0x31: range, USD rule and sector protection are tested with the command frame.
+fn write_memory(frame: &Frame, memories: &Memories, frames: &mut Frames) -> Result<Next, Refused> {
+    let x = count_sent_as_one_less(frame.bytes[4]);
+    effects::writable(memories, frame.address(), x)?;
+    frames.send(&[ACK]);
+    Ok(Next::EnterAt(
+        Step::Can(CanStep::WriteData),
+        x,
+        frame.address(),
+    ))
+}
+
+/// Takes 0x44: a list is gathered, a special erase is ACK and then ACK or NACK.
+fn erase(frame: &Frame, memories: &mut Memories, frames: &mut Frames) -> Result<Next, Refused> {
+    match EraseSelector::from_bytes(frame.bytes[0], frame.bytes[1]) {
+        EraseSelector::List(x) => {
+            frames.send(&[ACK]);
+            Ok(Next::Enter(Step::Can(CanStep::EraseList), x))
+        }
+        EraseSelector::Special(selector) => {
+            frames.send(&[ACK]);
+            let next = effects::erase_special(memories, selector)?;
+            frames.send(&[ACK]);
+            Ok(next)
+        }
+        EraseSelector::Other => Err(Refused),
+    }
+}
+
+/// Takes 0xAC: ACK, one frame of four.
+fn firmware_crc(frame: &Frame, memories: &Memories, frames: &mut Frames) -> Result<Next, Refused> {
+    let sectors = count_sent_as_one_less(u16::from_be_bytes([frame.bytes[4], frame.bytes[5]]));
+    let crc = effects::firmware_crc(memories, frame.address(), sectors)?;
+    frames.send(&[ACK]);
+    frames.send(&crc.to_be_bytes());
+    Ok(Next::Idle)
+}
+
+/// Gathers a frame of the running command: extra bytes are dropped by a write, refused by a list.
+fn gather(
+    step: CanStep,
+    session: &mut Session,
+    frame: &Frame,
+    memories: &mut Memories,
+    frames: &mut Frames,
+) -> Result<Next, Refused> {
+    require(frame.id == frames.id && frame.dlc > 0)?;
+    let room = session.expected - session.taken;
+    require(frame.dlc <= room || step == CanStep::WriteData)?;
+    for byte in frame.data().iter().take(room) {
+        session.stage(*byte);
+    }
+    if !session.has_all() {
+        return Ok(Next::Same);
+    }
+    let next = end_gathering(step, session, memories)?;
+    frames.send(&[ACK]);
+    Ok(next)
+}
+
+/// Ends a command that has gathered all it expects; idle gathers nothing.
+fn end_gathering(
+    step: CanStep,
+    session: &Session,
+    memories: &mut Memories,
+) -> Result<Next, Refused> {
+    let bytes = &session.staged[..session.expected];
+    match step {
+        CanStep::Idle => Err(Refused),
+        CanStep::WriteData => effects::write(memories, session.address, bytes),
+        CanStep::EraseList => effects::erase_list(memories, bytes),
+        CanStep::ProtectList => effects::protect_only(memories, bytes),
+    }
+}

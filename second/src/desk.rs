@@ -1,0 +1,166 @@
+//! The program `desk`: it reads lines in chunks, talks to one board and prints the answers.
+
+use crate::calls::{can_frame_in_place, uart_byte_in_place, CAN_REPLY_BYTES};
+use crate::frame::{frame_bytes, FRAME_BYTES, FRAME_HEAD_BYTES};
+use crate::line::{Line, LINE_BYTES, LINE_CHARACTERS};
+use crate::memories::Store;
+use crate::session::Session;
+use std::io::{self, ErrorKind, Read, Write};
+
+/// The most bytes taken by one read.
+const CHUNK_BYTES: usize = 65_536;
+
+/// The character that ends a line.
+const LF: u8 = b'\n';
+
+/// The capital hex digits by value.
+const HEX_DIGITS: &[u8; 16] = b"0123456789ABCDEF";
+
+/// A board on the desk, with the line that is still coming in.
+#[derive(Debug)]
+pub struct Desk {
+    store: Store,
+    session: Session,
+    reply: [u8; CAN_REPLY_BYTES],
+    held: Vec<u8>,
+    lines: u64,
+}
+
+impl Desk {
+    /// A fresh board, just powered, and no line read yet.
+    pub fn fresh() -> Desk {
+        Desk {
+            store: Store::fresh(),
+            session: Session::power_on(),
+            reply: [0; CAN_REPLY_BYTES],
+            held: Vec::with_capacity(LINE_CHARACTERS + 1),
+            lines: 0,
+        }
+    }
+
+    /// Takes a chunk of input and adds the answer to each line that ends in it.
+    pub fn take(&mut self, chunk: &[u8], answers: &mut Vec<u8>) {
+        let mut rest = chunk;
+        while let Some(end) = rest.iter().position(|character| *character == LF) {
+            self.end_line(&rest[..end], answers);
+            rest = &rest[end + 1..];
+        }
+        self.hold(rest);
+    }
+
+    /// Takes the end of the input, which ends a last line that lacks its LF.
+    pub fn finish(&mut self, answers: &mut Vec<u8>) {
+        if !self.held.is_empty() {
+            self.end_line(&[], answers);
+        }
+    }
+
+    /// Holds part of an unended line, at most one character more than a line may have.
+    fn hold(&mut self, part: &[u8]) {
+        let room = (LINE_CHARACTERS + 1).saturating_sub(self.held.len());
+        self.held.extend_from_slice(&part[..part.len().min(room)]);
+    }
+
+    /// Answers the line that ends with these characters.
+    fn end_line(&mut self, characters: &[u8], answers: &mut Vec<u8>) {
+        if self.held.is_empty() {
+            return self.answer(characters, answers);
+        }
+        self.hold(characters);
+        let mut held = std::mem::take(&mut self.held);
+        self.answer(&held, answers);
+        held.clear();
+        self.held = held;
+    }
+
+    /// Answers one line.
+    fn answer(&mut self, text: &[u8], answers: &mut Vec<u8>) {
+        self.lines += 1;
+        let mut space = [0; LINE_BYTES];
+        let Some(line) = Line::read(text, &mut space) else {
+            answers.extend_from_slice(format!("? {}\n", self.lines).as_bytes());
+            return;
+        };
+        answers.push(b'>');
+        match line {
+            Line::Uart(bytes) => self.talk_uart(bytes, answers),
+            Line::Can(id, data) => self.talk_can(id, data, answers),
+            Line::PowerOn => self.session = Session::power_on(),
+        }
+        answers.push(LF);
+    }
+
+    /// Gives the board UART bytes and prints the joined replies; a refused call adds nothing.
+    fn talk_uart(&mut self, bytes: &[u8], answers: &mut Vec<u8>) {
+        let memories = &mut self.store.lend();
+        for byte in bytes {
+            let called = uart_byte_in_place(&mut self.session, *byte, memories, &mut self.reply);
+            for replied in &self.reply[..called.unwrap_or(0)] {
+                answers.push(b' ');
+                print_byte(*replied, answers);
+            }
+        }
+    }
+
+    /// Gives the board one CAN frame and prints the reply frames; a refused call adds nothing.
+    fn talk_can(&mut self, id: u16, data: &[u8], answers: &mut Vec<u8>) {
+        let frame = frame_bytes(id, data);
+        let memories = &mut self.store.lend();
+        let called = can_frame_in_place(&mut self.session, &frame, memories, &mut self.reply);
+        for replied in self.reply[..called.unwrap_or(0)].chunks_exact(FRAME_BYTES) {
+            print_frame(replied, answers);
+        }
+    }
+}
+
+/// Runs a fresh desk to the end of the input, with at most one write for each read.
+pub fn run(input: &mut impl Read, output: &mut impl Write) -> io::Result<()> {
+    let mut desk = Desk::fresh();
+    let mut chunk = vec![0; CHUNK_BYTES];
+    let mut answers = Vec::new();
+    loop {
+        let length = match input.read(&mut chunk) {
+            Err(error) if error.kind() == ErrorKind::Interrupted => continue,
+            read => read?,
+        };
+        if length == 0 {
+            desk.finish(&mut answers);
+            return send(&mut answers, output);
+        }
+        desk.take(&chunk[..length], &mut answers);
+        send(&mut answers, output)?;
+    }
+}
+
+/// Writes the answers gathered so far, if any, and forgets them.
+fn send(answers: &mut Vec<u8>, output: &mut impl Write) -> io::Result<()> {
+    if !answers.is_empty() {
+        output.write_all(answers)?;
+        output.flush()?;
+        answers.clear();
+    }
+    Ok(())
+}
+
+/// Prints a hex digit.
+fn print_digit(value: u8, answers: &mut Vec<u8>) {
+    answers.push(HEX_DIGITS[usize::from(value & 0x0F)]);
+}
+
+/// Prints a byte as two hex digits.
+fn print_byte(byte: u8, answers: &mut Vec<u8>) {
+    print_digit(byte >> 4, answers);
+    print_digit(byte, answers);
+}
+
+/// Prints a frame after a space as ID:data, the ID three digits and the DLC bytes unspaced.
+fn print_frame(frame: &[u8], answers: &mut Vec<u8>) {
+    let (head, data) = frame.split_at(FRAME_HEAD_BYTES);
+    answers.push(b' ');
+    print_digit(head[0], answers);
+    print_byte(head[1], answers);
+    answers.push(b':');
+    for byte in data.iter().take(usize::from(head[2])) {
+        print_byte(*byte, answers);
+    }
+}

@@ -1,0 +1,22 @@
+//! A second reading of the classroom boot board: three lent memories, a session and three calls.
+//!
+//! Each module carries one chapter of document 01 and uses its words.
+
+pub mod board;
+pub mod calls;
+pub mod commands;
+pub mod crc;
+pub mod desk;
+pub mod frame;
+pub mod line;
+pub mod memories;
+pub mod session;
+
+mod can;
+mod effects;
+mod reply;
+mod uart;
+
+pub use calls::{take_can_frame, take_uart_byte, Cause, Outcome, ACCEPTED};
+pub use memories::{Memories, Store};
+pub use session::Session;

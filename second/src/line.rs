@@ -1,0 +1,81 @@
+//! The lines that `desk` reads.
+
+use crate::frame::FRAME_DATA_BYTES;
+
+/// The most characters in a line, its LF not counted.
+pub const LINE_CHARACTERS: usize = 800;
+
+/// The characters of a byte field: a space and two hex digits.
+const BYTE_FIELD: usize = 3;
+
+/// The most byte fields that fit in a line.
+pub const LINE_BYTES: usize = LINE_CHARACTERS / BYTE_FIELD;
+
+/// The characters of an ID field: a space and three hex digits.
+const ID_FIELD: usize = 4;
+
+/// A well-formed line.
+#[derive(Clone, Copy, Debug, PartialEq, Eq)]
+pub enum Line<'b> {
+    /// `U`: bytes for UART, at least one.
+    Uart(&'b [u8]),
+    /// `C`: an ID and the data bytes of one CAN frame.
+    Can(u16, &'b [u8]),
+    /// `P`: power on.
+    PowerOn,
+}
+
+impl<'b> Line<'b> {
+    /// Reads a line without its LF, putting its bytes into `space`; any other line gives nothing.
+    pub fn read(text: &[u8], space: &'b mut [u8; LINE_BYTES]) -> Option<Line<'b>> {
+        if text.len() > LINE_CHARACTERS {
+            return None;
+        }
+        match text.split_first()? {
+            (b'U', fields) => read_uart(fields, space),
+            (b'C', fields) => read_can(fields, space),
+            (b'P', []) => Some(Line::PowerOn),
+            _ => None,
+        }
+    }
+}
+
+/// Reads the fields of a `U` line: one or more bytes.
+fn read_uart<'b>(fields: &[u8], space: &'b mut [u8; LINE_BYTES]) -> Option<Line<'b>> {
+    let bytes = read_bytes(fields, space)?;
+    (!bytes.is_empty()).then_some(Line::Uart(bytes))
+}
+
+/// Reads the fields of a `C` line: an ID and up to eight bytes.
+fn read_can<'b>(fields: &[u8], space: &'b mut [u8; LINE_BYTES]) -> Option<Line<'b>> {
+    let (id_field, byte_fields) = fields.split_at_checked(ID_FIELD)?;
+    let id = id_field
+        .strip_prefix(b" ")?
+        .iter()
+        .try_fold(0, |id, digit| Some(id << 4 | u16::from(hex_value(*digit)?)))?;
+    let bytes = read_bytes(byte_fields, space)?;
+    (bytes.len() <= FRAME_DATA_BYTES).then_some(Line::Can(id, bytes))
+}
+
+/// Reads byte fields to the end of the line.
+fn read_bytes<'b>(fields: &[u8], space: &'b mut [u8; LINE_BYTES]) -> Option<&'b [u8]> {
+    let count = fields.len() / BYTE_FIELD;
+    let whole = fields.len().is_multiple_of(BYTE_FIELD);
+    let bytes = space.get_mut(..count).filter(|_| whole)?;
+    for (byte, field) in bytes.iter_mut().zip(fields.chunks_exact(BYTE_FIELD)) {
+        let [b' ', high, low] = *field else {
+            return None;
+        };
+        *byte = hex_value(high)? << 4 | hex_value(low)?;
+    }
+    Some(bytes)
+}
+
+/// The value of a capital hex digit.
+fn hex_value(digit: u8) -> Option<u8> {
+    match digit {
+        b'0'..=b'9' => Some(digit - b'0'),
+        b'A'..=b'F' => Some(digit - b'A' + 10),
+        _ => None,
+    }
+}

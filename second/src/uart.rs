@@ -1,0 +1,248 @@
+//! The UART conversation: bytes are staged until a step has all it expects, then the step ends.
+
+use crate::commands::{
+    count_sent_as_one_less, is_protected, EraseSelector, ACCESS_PROTECT, ACCESS_UNPROTECT,
+    DEVICE_ID, ERASE, FIRMWARE_CRC, GET_COMMANDS, GET_DEVICE_ID, GET_VERSION, JUMP, PROTECT,
+    READ_MEMORY, RESET_DEVICE, UART_LIST, UNPROTECT, VERSION, WRITE_MEMORY,
+};
+use crate::effects::{self, require, Refused};
+use crate::memories::Memories;
+use crate::reply::{Reply, ACK, NACK};
+use crate::session::{Next, Session, Step, UartStep};
+
+/// The byte that connects UART.
+const CONNECT_BYTE: u8 = 0x7F;
+
+/// Takes one byte while no carrier is connected.
+pub fn connect(session: &mut Session, byte: u8, reply: &mut Reply) {
+    if byte == CONNECT_BYTE {
+        reply.push(ACK);
+        session.connect(Step::Uart(UartStep::Idle));
+    }
+}
+
+/// Takes one byte of a connected session; a refusal is one NACK and leaves the session idle.
+pub fn take_byte(
+    step: UartStep,
+    session: &mut Session,
+    byte: u8,
+    memories: &mut Memories,
+    reply: &mut Reply,
+) {
+    session.stage(byte);
+    if !session.has_all() {
+        return;
+    }
+    let ended = end_step(step, session, memories, reply);
+    session.go(ended.unwrap_or_else(|Refused| {
+        reply.push(NACK);
+        Next::Idle
+    }));
+}
+
+/// Ends a step that has all it expects; it replies nothing before its last test has passed.
+fn end_step(
+    step: UartStep,
+    session: &Session,
+    memories: &mut Memories,
+    reply: &mut Reply,
+) -> Result<Next, Refused> {
+    let bytes = &session.staged[..session.expected];
+    let address = session.address;
+    let x = step.expects().count_of(session.expected);
+    match step {
+        UartStep::Idle => command(bytes, memories, reply),
+        UartStep::ReadAddress => region_address(bytes, UartStep::ReadLength, reply),
+        UartStep::JumpAddress => jump_address(bytes, reply),
+        UartStep::WriteAddress => region_address(bytes, UartStep::WriteLength, reply),
+        UartStep::CrcAddress => crc_address(bytes, reply),
+        UartStep::ReadLength => read_length(bytes, address, memories, reply),
+        UartStep::WriteLength => Ok(enter_list(UartStep::WriteData, bytes)),
+        UartStep::WriteData => write_data(bytes, x, address, memories, reply),
+        UartStep::EraseSelector => erase_selector(bytes),
+        UartStep::SpecialCheck => special_check(bytes, address, memories, reply),
+        UartStep::EraseList => erase_list(bytes, x, memories, reply),
+        UartStep::ProtectLength => Ok(enter_list(UartStep::ProtectList, bytes)),
+        UartStep::ProtectList => protect_list(bytes, x, memories, reply),
+        UartStep::CrcCount => crc_count(bytes, address, memories, reply),
+    }
+}
+
+/// Ends the idle step: a command and its complement, refused if wrong, unknown or protected.
+fn command(bytes: &[u8], memories: &mut Memories, reply: &mut Reply) -> Result<Next, Refused> {
+    require(bytes[1] == !bytes[0])?;
+    let command = u16::from(bytes[0]);
+    require(!(is_protected(command) && effects::protection_is_on(memories)))?;
+    match command {
+        GET_COMMANDS => Ok(tell(&[UART_LIST.len() as u8], &UART_LIST, reply)),
+        GET_VERSION => Ok(tell(&[], &VERSION, reply)),
+        GET_DEVICE_ID => Ok(tell(&[], &DEVICE_ID, reply)),
+        READ_MEMORY => Ok(begin(UartStep::ReadAddress, reply)),
+        JUMP => Ok(begin(UartStep::JumpAddress, reply)),
+        WRITE_MEMORY => Ok(begin(UartStep::WriteAddress, reply)),
+        ERASE => Ok(begin(UartStep::EraseSelector, reply)),
+        PROTECT => Ok(begin(UartStep::ProtectLength, reply)),
+        FIRMWARE_CRC => Ok(begin(UartStep::CrcAddress, reply)),
+        UNPROTECT | ACCESS_PROTECT | ACCESS_UNPROTECT | RESET_DEVICE => {
+            reply.extend(&[ACK, ACK]);
+            Ok(effects::resetting(command, memories))
+        }
+        _ => Err(Refused),
+    }
+}
+
+/// Answers an asking command: ACK, its head and body, ACK.
+fn tell(head: &[u8], body: &[u8], reply: &mut Reply) -> Next {
+    reply.push(ACK);
+    reply.extend(head);
+    reply.extend(body);
+    reply.push(ACK);
+    Next::Idle
+}
+
+/// Answers ACK and enters a command's first step.
+fn begin(step: UartStep, reply: &mut Reply) -> Next {
+    reply.push(ACK);
+    Next::Enter(Step::Uart(step), 1)
+}
+
+/// Enters, without an answer, a step for the X that was sent as one less.
+fn enter_list(step: UartStep, bytes: &[u8]) -> Next {
+    Next::Enter(Step::Uart(step), count_sent_as_one_less(bytes[0]))
+}
+
+/// The XOR of all the bytes.
+fn xor(bytes: &[u8]) -> u8 {
+    bytes.iter().fold(0, |sum, byte| sum ^ byte)
+}
+
+/// The four address bytes, high first, refused if the fifth is not their XOR.
+fn checked_address(bytes: &[u8]) -> Result<u32, Refused> {
+    let address = [bytes[0], bytes[1], bytes[2], bytes[3]];
+    require(bytes[4] == xor(&address))?;
+    Ok(u32::from_be_bytes(address))
+}
+
+/// The X items before the last byte, which must be the XOR of X - 1 and of all of them.
+fn checked_items(bytes: &[u8], x: usize) -> Result<&[u8], Refused> {
+    let (items, check) = bytes.split_at(bytes.len() - 1);
+    let sent = (x - 1) as u8;
+    require(check[0] == sent ^ xor(items))?;
+    Ok(items)
+}
+
+/// Ends the address of 0x11 or 0x31, which must be in a region.
+fn region_address(bytes: &[u8], then: UartStep, reply: &mut Reply) -> Result<Next, Refused> {
+    let address = checked_address(bytes)?;
+    effects::in_a_region(address)?;
+    reply.push(ACK);
+    Ok(Next::EnterAt(Step::Uart(then), 1, address))
+}
+
+/// Ends the address of 0x21: ACK and jump.
+fn jump_address(bytes: &[u8], reply: &mut Reply) -> Result<Next, Refused> {
+    let running = effects::jump(checked_address(bytes)?)?;
+    reply.push(ACK);
+    Ok(running)
+}
+
+/// Ends the address of 0xAC, which must be a sector start in flash.
+fn crc_address(bytes: &[u8], reply: &mut Reply) -> Result<Next, Refused> {
+    let address = checked_address(bytes)?;
+    effects::sector_start(address)?;
+    reply.push(ACK);
+    Ok(Next::EnterAt(Step::Uart(UartStep::CrcCount), 1, address))
+}
+
+/// Ends 0x11: length less one and its complement, then ACK and the data.
+fn read_length(
+    bytes: &[u8],
+    address: u32,
+    memories: &Memories,
+    reply: &mut Reply,
+) -> Result<Next, Refused> {
+    require(bytes[1] == !bytes[0])?;
+    let data = effects::read(memories, address, count_sent_as_one_less(bytes[0]))?;
+    reply.push(ACK);
+    reply.extend(data);
+    Ok(Next::Idle)
+}
+
+/// Ends 0x31: the data and the XOR of length less one and data, then one ACK.
+fn write_data(
+    bytes: &[u8],
+    x: usize,
+    address: u32,
+    memories: &mut Memories,
+    reply: &mut Reply,
+) -> Result<Next, Refused> {
+    let next = effects::write(memories, address, checked_items(bytes, x)?)?;
+    reply.push(ACK);
+    Ok(next)
+}
+
+/// Ends the selector of 0x44, which is answered only if it is refused.
+fn erase_selector(bytes: &[u8]) -> Result<Next, Refused> {
+    match EraseSelector::from_bytes(bytes[0], bytes[1]) {
+        EraseSelector::List(x) => Ok(Next::Enter(Step::Uart(UartStep::EraseList), x)),
+        EraseSelector::Special(selector) => Ok(Next::EnterAt(
+            Step::Uart(UartStep::SpecialCheck),
+            1,
+            selector,
+        )),
+        EraseSelector::Other => Err(Refused),
+    }
+}
+
+/// Ends a special erase: the check is against the XOR of the address's two low bytes.
+fn special_check(
+    bytes: &[u8],
+    address: u32,
+    memories: &mut Memories,
+    reply: &mut Reply,
+) -> Result<Next, Refused> {
+    let [_, _, high, low] = address.to_be_bytes();
+    require(bytes[0] == high ^ low)?;
+    let next = effects::erase_special(memories, address)?;
+    reply.push(ACK);
+    Ok(next)
+}
+
+/// Ends 0x44 with a list: X sector numbers and the XOR of selector and numbers.
+fn erase_list(
+    bytes: &[u8],
+    x: usize,
+    memories: &mut Memories,
+    reply: &mut Reply,
+) -> Result<Next, Refused> {
+    let next = effects::erase_list(memories, checked_items(bytes, x)?)?;
+    reply.push(ACK);
+    Ok(next)
+}
+
+/// Ends 0x63: X indexes and the XOR of all, then reset.
+fn protect_list(
+    bytes: &[u8],
+    x: usize,
+    memories: &mut Memories,
+    reply: &mut Reply,
+) -> Result<Next, Refused> {
+    let next = effects::protect_only(memories, checked_items(bytes, x)?)?;
+    reply.push(ACK);
+    Ok(next)
+}
+
+/// Ends 0xAC: two bytes of sectors less one and their XOR with 0xFF, then ACK and the CRC.
+fn crc_count(
+    bytes: &[u8],
+    address: u32,
+    memories: &Memories,
+    reply: &mut Reply,
+) -> Result<Next, Refused> {
+    require(bytes[2] == bytes[0] ^ bytes[1] ^ 0xFF)?;
+    let sectors = count_sent_as_one_less(u16::from_be_bytes([bytes[0], bytes[1]]));
+    let crc = effects::firmware_crc(memories, address, sectors)?;
+    reply.push(ACK);
+    reply.extend(&crc.to_be_bytes());
+    Ok(Next::Idle)
+}

@@ -1,0 +1,13 @@
+//! Tests of the second board; every expected value is taken from document 01.
+
+mod any_input;
+mod bench;
+mod can_talk;
+mod causes;
+mod crc;
+mod desk_lines;
+mod effects;
+mod sessions;
+mod traps;
+mod uart_talk;
+mod worked_talk;
