@@ -1,0 +1,41 @@
+-- The values of the board: document 01, "The board on the desk".
+use Prim.Native.Nat.{ℕ, _*_}
+use Rattle.board.specs.declared.Address.{Address}
+use Rattle.board.specs.declared.Extent.{Extent}
+use Rattle.board.specs.declared.Identity.{Identity}
+use Rattle.board.specs.declared.Layout.{Layout}
+use Rattle.board.specs.declared.Region.{Region}
+use Rattle.board.specs.declared.Region.the-variants.{Flash, Sram, Usd}
+use Rattle.board.specs.declared.Sectors.{Sectors}
+
+-- the byte address that is this number
+abbrev pub address : ℕ → Address
+address n = record { 0 = n }
+
+-- 32 sectors of 1,024 bytes
+abbrev pub sectors : Sectors
+sectors = record { count = 32; bytes = 1024 }
+
+-- flash, SRAM and user system data: first address and bytes
+abbrev pub flash : Extent
+flash = record { first = address 0x08000000; bytes = sectors .count * sectors .bytes }
+
+abbrev pub sram : Extent
+sram = record { first = address 0x20000000; bytes = 8192 }
+
+abbrev pub usd : Extent
+usd = record { first = address 0x1FFFF800; bytes = 64 }
+
+-- the extent of each region
+abbrev pub extentOf : Region → Extent
+extentOf Flash = flash
+extentOf Sram = sram
+extentOf Usd = usd
+
+-- USD byte 0 is 0xA5 for protection off; bytes 8 to 11 hold one bit per sector
+abbrev pub layout : Layout
+layout = record { protection = 0; «protection_off» = 0xA5; «sector_bits» = 8 }
+
+-- protocol version, BID bytes, product ID and project ID
+abbrev pub identity : Identity
+identity = record { version = 0x20; «bid_first» = 0x01; «bid_second» = 0x07; product = 0x12345678; project = 0x5A }

@@ -1,0 +1,4 @@
+pub mod Board
+pub mod Quantities
+pub mod Regions
+pub mod Usd

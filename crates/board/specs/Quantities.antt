@@ -1,0 +1,63 @@
+-- A sector number, a byte address and a count sent as one less: separate quantities, each converted here and nowhere else.
+use Prim.Native.Nat.{ℕ, _+_, _-_, _*_, _/_}
+use mathlib.Core.Bool.{Bool}
+use mathlib.Core.List.{List, [], _∷_, map}
+use lib.Dec.{eqb, ltb}
+use Rattle.words.specs.Lists.{any, countFrom, pairs}
+use Rattle.board.specs.Board.{sectors}
+use Rattle.board.specs.declared.Address.{Address}
+use Rattle.board.specs.declared.Extent.{Extent}
+use Rattle.board.specs.declared.LessOne.{LessOne}
+use Rattle.board.specs.declared.Sector.{Sector}
+
+-- the count sent as this number
+abbrev pub lessOne : ℕ → LessOne
+lessOne n = record { 0 = n }
+
+-- a count, of which one less was sent
+abbrev pub countOf : LessOne → ℕ
+countOf n = n .0 + 1
+
+-- what is sent for a count
+abbrev pub oneLess : ℕ → LessOne
+oneLess x = lessOne (x - 1)
+
+-- the sector of this number
+abbrev pub sector : ℕ → Sector
+sector k = record { 0 = k }
+
+-- the offset of a sector's first byte in flash
+abbrev pub startOf : Sector → ℕ
+startOf k = k .0 * sectors .bytes
+
+-- the sector in which a byte of flash lies
+abbrev pub sectorAt : ℕ → Sector
+sectorAt offset = sector (offset / sectors .bytes)
+
+-- the number of a sector that the board has: 0 to 31
+abbrev pub isSector : Sector → Bool
+isSector k = ltb (k .0) (sectors .count)
+
+-- a sector is among those named
+abbrev pub named : List Sector → Sector → Bool
+named ks k = any (λ (j : Sector). eqb (j .0) (k .0)) ks
+
+-- n sectors in order, from one on
+abbrev pub sectorsFrom : Sector → ℕ → List Sector
+sectorsFrom k n = map sector (countFrom (k .0) n)
+
+-- every sector of the board
+abbrev pub everySector : List Sector
+everySector = sectorsFrom (sector 0) (sectors .count)
+
+-- the sectors that a list of one-byte indexes names
+abbrev pub indexed : List ℕ → List Sector
+indexed bytes = map sector bytes
+
+-- the sectors that a list of two-byte numbers names
+abbrev pub numbered : List ℕ → List Sector
+numbered bytes = map sector (pairs bytes)
+
+-- how far an address lies behind a region's first one
+abbrev pub offsetIn : Extent → Address → ℕ
+offsetIn e a = a .0 - e .first .0

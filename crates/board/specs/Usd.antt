@@ -1,0 +1,21 @@
+-- What user system data says: document 01, "The board on the desk".
+use Prim.Native.Nat.{ℕ, _+_, _/_, _%_}
+use mathlib.Core.Bool.{Bool, not}
+use mathlib.Core.List.{List}
+use lib.ListN.{getD}
+use lib.Dec.{eqb}
+use Rattle.words.specs.Bytes.{bit}
+use Rattle.board.specs.Board.{layout}
+use Rattle.board.specs.declared.Sector.{Sector}
+
+-- byte 0 is 0xA5 for protection off; every other value means on
+abbrev pub protectionOn : List ℕ → Bool
+protectionOn u = not (eqb (getD u (layout .protection) 0) (layout .«protection_off»))
+
+-- where the byte with a sector's bit stands
+abbrev pub bitByte : Sector → ℕ
+bitByte k = layout .«sector_bits» + k .0 / 8
+
+-- sector k is bit k mod 8 of byte 8 + k/8, and 0 means write-protected
+unfoldable pub writeProtected : List ℕ → Sector → Bool
+writeProtected u k = eqb (bit (getD u (bitByte k) 0) (k .0 % 8)) 0

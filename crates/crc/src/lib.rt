@@ -1,0 +1,1 @@
+// The checksum of Firmware CRC; its code comes with the calls.

@@ -1,0 +1,5 @@
+pub mod Memories
+pub mod Write
+pub mod Erase
+pub mod Protect
+pub mod Wipe

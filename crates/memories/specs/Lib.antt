@@ -1,0 +1,3 @@
+pub mod Memories
+pub mod Protection
+pub mod Effects

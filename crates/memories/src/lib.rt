@@ -1,0 +1,16 @@
+use board::Region;
+
+// What is done to the memories; the bytes written and the sectors named stand among the staged bytes.
+pub enum Change {
+    Nothing,
+    // So many staged bytes go into a region, from an offset on.
+    Write(Region, usize, usize),
+    EraseAll,
+    // So many sectors, of two-byte numbers.
+    EraseSectors(usize),
+    // So many sectors, of one-byte indexes.
+    ProtectOnly(usize),
+    Release,
+    Lock,
+    Unlock,
+}

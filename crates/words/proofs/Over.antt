@@ -1,0 +1,66 @@
+-- Laws of bytes laid over a memory: its length, and what stands at each place afterwards.
+use mathlib.Core.Path.{_≡_, refl, ap, sym, _∙_}
+use mathlib.Core.Bool.{Bool, true, false, _&&_}
+use mathlib.Core.List.{List, [], _∷_}
+use Prim.Native.Nat.{ℕ, zero, suc, _+_, _-_, _≤_, _<_}
+use native.Mathlib.Nat.{le-of-suc-le-suc, not-suc-le-zero, zero-add, suc-add}
+use native.Mathlib.Omega.{arith}
+use lib.Dec.{leb, ltb}
+use lib.ListN.{length, getD}
+use borrow.Author.Tests.{leb-true, leb-false, ltb-true, ltb-false}
+use Rattle.words.specs.Choice.{if_then_else_}
+use Rattle.words.specs.Over.{over, within}
+
+module _ (f : ℕ → ℕ → ℕ) where
+  -- the length stays
+  pub length-over : (m : List ℕ) (at : ℕ) (new : List ℕ) → length (over f m at new) ≡ length m
+  length-over [] at new = refl
+  length-over (x ∷ m) (suc at) new = ap suc (length-over m at new)
+  length-over (x ∷ m) zero [] = refl
+  length-over (x ∷ m) zero (b ∷ new) = ap suc (length-over m zero new)
+
+  over-first : (m new : List ℕ) (i : ℕ) → i < length new → i < length m
+      → getD (over f m zero new) i 0 ≡ f (getD m i 0) (getD new i 0)
+  over-first m [] i h k = absurd (not-suc-le-zero h)
+  over-first [] (b ∷ new) i h k = absurd (not-suc-le-zero k)
+  over-first (x ∷ m) (b ∷ new) zero h k = refl
+  over-first (x ∷ m) (b ∷ new) (suc i) h k = over-first m new i (le-of-suc-le-suc h) (le-of-suc-le-suc k)
+
+  -- where a new byte was laid, it is joined with the old one
+  pub over-within : (m : List ℕ) (at : ℕ) (new : List ℕ) (i : ℕ) → i < length new → at + i < length m
+      → getD (over f m at new) (at + i) 0 ≡ f (getD m (at + i) 0) (getD new i 0)
+  over-within m zero new i h k = rw zero-add (over-first m new i h (rw zero-add at k))
+  over-within [] (suc at) new i h k = absurd (not-suc-le-zero k)
+  over-within (x ∷ m) (suc at) new i h k = rw suc-add (over-within m at new i h (le-of-suc-le-suc (rw suc-add at k)))
+
+  -- before the new bytes nothing changes
+  pub over-before : (m : List ℕ) (at : ℕ) (new : List ℕ) (i : ℕ) → i < at → getD (over f m at new) i 0 ≡ getD m i 0
+  over-before [] at new i h = refl
+  over-before (x ∷ m) zero new i h = absurd (not-suc-le-zero h)
+  over-before (x ∷ m) (suc at) new zero h = refl
+  over-before (x ∷ m) (suc at) new (suc i) h = over-before m at new i (le-of-suc-le-suc h)
+
+  -- behind the new bytes nothing changes
+  pub over-behind : (m : List ℕ) (at : ℕ) (new : List ℕ) (i : ℕ) → at + length new ≤ i → getD (over f m at new) i 0 ≡ getD m i 0
+  over-behind [] at new i h = refl
+  over-behind (x ∷ m) (suc at) new zero h = refl
+  over-behind (x ∷ m) (suc at) new (suc i) h = over-behind m at new i (le-of-suc-le-suc (rw suc-add at h))
+  over-behind (x ∷ m) zero [] i h = refl
+  over-behind (x ∷ m) zero (b ∷ new) zero h = absurd (not-suc-le-zero (rw zero-add at h))
+  over-behind (x ∷ m) zero (b ∷ new) (suc i) h =
+      over-behind m zero new i (le-of-suc-le-suc (rw (zero-add, ← zero-add (length new)) at h))
+
+  -- what stands at each place: the old byte joined with the new one where one was laid, and else the old byte
+  pub over-at : (m : List ℕ) (at : ℕ) (new : List ℕ) (i : ℕ) → i < length m
+      → getD (over f m at new) i 0 ≡ (if within at (length new) i then f (getD m i 0) (getD new (i - at) 0) else getD m i 0)
+  over-at m at new i h = by-place (leb at i) refl (ltb i (at + length new)) refl
+    where
+      by-place : (a : Bool) → leb at i ≡ a → (b : Bool) → ltb i (at + length new) ≡ b
+          → getD (over f m at new) i 0 ≡ (if a && b then f (getD m i 0) (getD new (i - at) 0) else getD m i 0)
+      by-place false e b e′ = over-before m at new i (leb-false at i e)
+      by-place true e false e′ = over-behind m at new i (ltb-false i (at + length new) e′)
+      by-place true e true e′ =
+          let l : at ≤ i = leb-true at i e in
+          let r : i < at + length new = ltb-true i (at + length new) e′ in
+          let k : at + (i - at) ≡ i = omega arith in
+          rw k at (over-within m at new (i - at) (omega arith) (rw k h))

@@ -1,0 +1,5 @@
+pub mod Choice
+pub mod Bytes
+pub mod Lists
+pub mod Over
+pub mod Hex
