@@ -1,0 +1,114 @@
+-- The three calls as one function from input and state to outcome, and runs of inputs.
+use Prim.Native.Nat.{ℕ}
+use mathlib.Core.Bool.{Bool, true}
+use mathlib.Core.List.{List, [], _∷_}
+use lib.Dec.{leb}
+use Rattle.words.specs.Choice.{if_then_else_}
+use Rattle.words.specs.Lists.{join}
+use Rattle.memories.specs.Memories.{Memories, proper}
+use Rattle.memories.specs.Effects.{effect}
+use Rattle.command.specs.Decision.{answer}
+use Rattle.command.specs.Progress.{stagedWith}
+use Rattle.command.specs.Says.{says}
+use Rattle.command.specs.declared.Decision.{Decision}
+use Rattle.command.specs.declared.Next.the-variants.{Reset}
+use Rattle.command.specs.declared.Reply.the-variants.{Silence}
+use Rattle.uart.specs.Conversation as UC
+use Rattle.can.specs.Steps as C
+use Rattle.can.specs.Conversation as CC
+use Rattle.can.specs.Frames.{classic, frameIn, carried, isFrame, framed}
+use Rattle.boot.specs.Session.{on, progress, after}
+use Rattle.boot.specs.Decide.{decideByte, decideFrame}
+use Rattle.boot.specs.Causes.{causeOf, accepts, uartRoom, canRoom}
+use Rattle.boot.specs.declared.Carrier.{Carrier}
+use Rattle.boot.specs.declared.Carrier.the-variants.{None, Uart, Can}
+use Rattle.boot.specs.declared.Cause.{Cause}
+use Rattle.boot.specs.declared.Cause.the-variants.{Accepted}
+use Rattle.boot.specs.declared.Session.{Session}
+
+-- the session and the three memories
+pub record State : Type 0 where
+  pub session : Session
+  pub memories : Memories
+
+-- an input: power on; a UART byte; a CAN frame's slice; the last two with the room lent for the reply
+pub data Input : Type 0 where
+  Power : Input
+  Byte : ℕ → ℕ → Input
+  Framed : ℕ → List ℕ → Input
+
+-- what a call gives back and leaves
+pub record Outcome : Type 0 where
+  pub cause : Cause
+  pub reply : List ℕ
+  pub state : State
+
+-- the carrier that an input comes on
+abbrev pub carrierOf : Input → Carrier
+carrierOf Power = None
+carrierOf (Byte room b) = Uart
+carrierOf (Framed room l) = Can
+
+-- the bytes that an input brings
+abbrev pub brings : Input → List ℕ
+brings Power = []
+brings (Byte room b) = b ∷ []
+brings (Framed room l) = carried (frameIn l)
+
+-- why an input is refused, if it is
+unfoldable pub causeFor : Input → State → Cause
+causeFor Power p = Accepted
+causeFor (Byte room b) p = causeOf (proper (p .memories)) (leb uartRoom room) true (p .session)
+causeFor (Framed room l) p = causeOf (proper (p .memories)) (leb canRoom room) (isFrame classic l) (p .session)
+
+-- what is decided on an input that is accepted
+unfoldable pub decide : Input → Session → List ℕ → Decision
+decide Power s usd = answer Silence Reset
+decide (Byte room b) s usd = decideByte s usd b
+decide (Framed room l) s usd = decideFrame s usd (frameIn l)
+
+-- what a carrier tells of its commands
+abbrev pub commandsOf : Input → List ℕ
+commandsOf Power = []
+commandsOf (Byte room b) = UC.commandBytes
+commandsOf (Framed room l) = CC.commandBytes
+
+-- the messages as the carrier sends them
+unfoldable pub sent : Input → Session → List (List ℕ) → List ℕ
+sent Power s ms = []
+sent (Byte room b) s ms = join ms
+sent (Framed room l) s ms =
+    framed classic (if on Can s then CC.bears (C.stepOf (s .step)) (frameIn l) else frameIn l .id) ms
+
+-- a decision is carried out
+unfoldable pub perform : Input → State → Decision → Outcome
+perform i p d = record {
+  cause = Accepted;
+  reply = sent i (p .session) (says (commandsOf i) (d .reply) (p .memories));
+  state = record {
+    session = after (carrierOf i) (brings i) (d .next) (p .session);
+    memories = effect (d .change) (stagedWith (progress (p .session)) (brings i)) (p .memories);
+  };
+}
+
+-- a refused call gives no reply, and leaves everything as it was
+abbrev pub refused : Cause → State → Outcome
+refused c p = record { cause = c; reply = []; state = p }
+
+-- one call
+unfoldable pub call : Input → State → Outcome
+call i p =
+    if accepts (causeFor i p) then perform i p (decide i (p .session) (p .memories .usd))
+    else refused (causeFor i p) p
+
+-- ---- runs of inputs, power cycles among them
+
+-- what each call of a run gives back and leaves
+unfoldable pub outcomes : List Input → State → List Outcome
+outcomes [] p = []
+outcomes (i ∷ is) p = call i p ∷ outcomes is (call i p .state)
+
+-- the state after a run
+unfoldable pub run : List Input → State → State
+run [] p = p
+run (i ∷ is) p = run is (call i p .state)

@@ -1,0 +1,35 @@
+-- What an input is decided to do: session, input and user system data are seen, flash and SRAM never.
+use Prim.Native.Nat.{ℕ}
+use mathlib.Core.Bool.{Bool, _&&_}
+use mathlib.Core.List.{List}
+use lib.Dec.{eqb}
+use Rattle.command.specs.Decision.{if_gives_else_, answer}
+use Rattle.command.specs.declared.Decision.{Decision}
+use Rattle.command.specs.declared.Next.the-variants.{Stay, GoIdle}
+use Rattle.command.specs.declared.Reply.the-variants.{Silence, Ack}
+use Rattle.uart.specs.Steps as U
+use Rattle.uart.specs.Conversation as UC
+use Rattle.can.specs.Steps as C
+use Rattle.can.specs.Conversation as CC
+use Rattle.can.specs.Frames.{Frame}
+use Rattle.boot.specs.Session.{on, progress}
+use Rattle.boot.specs.declared.Carrier.{Carrier}
+use Rattle.boot.specs.declared.Carrier.the-variants.{None, Uart, Can}
+use Rattle.boot.specs.declared.Session.{Session}
+
+-- a connected session hears its carrier; one that is not connected hears only the call to connect; other input changes nothing
+unfoldable pub connected : Carrier → Session → Bool → Decision → Decision
+connected c s calls heard =
+    if on c s gives heard
+    else if on None s && calls gives answer Ack GoIdle
+    else answer Silence Stay
+
+-- one UART byte
+unfoldable pub decideByte : Session → List ℕ → ℕ → Decision
+decideByte s usd b =
+    connected Uart s (eqb b UC.connectByte) (UC.heard (U.stepOf (s .step)) (progress s) usd b)
+
+-- one CAN frame
+unfoldable pub decideFrame : Session → List ℕ → Frame → Decision
+decideFrame s usd f =
+    connected Can s (eqb (f .id) CC.connectId) (CC.heard (C.stepOf (s .step)) (progress s) usd f)

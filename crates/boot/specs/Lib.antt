@@ -1,0 +1,5 @@
+pub mod Session
+pub mod Decide
+pub mod Causes
+pub mod Calls
+pub mod Promise

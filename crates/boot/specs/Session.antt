@@ -1,0 +1,125 @@
+-- The session: document 01, "Calls and the five causes".
+use Prim.Native.Nat.{ℕ, _+_}
+use mathlib.Core.Bool.{Bool, _&&_}
+use mathlib.Core.List.{List}
+use lib.ListN.{length, replicate}
+use lib.Dec.{eqb, leb, ltb}
+use Rattle.words.specs.Choice.{if_then_else_}
+use Rattle.command.specs.Progress.{Progress, fitting, stagedWith}
+use Rattle.command.specs.declared.Next.{Next}
+use Rattle.command.specs.declared.Next.the-variants.{Stay, Reset, Gather, GoIdle, SetSpeed, Enter, EnterAt, Run}
+use Rattle.uart.specs.Steps as U
+use Rattle.can.specs.Steps as C
+use Rattle.boot.specs.declared.Carrier.{Carrier}
+use Rattle.boot.specs.declared.Carrier.the-variants.{None, Uart, Can, Running}
+use Rattle.boot.specs.declared.Session.{Session}
+
+-- the number of each carrier
+abbrev pub carrierNo : Carrier → ℕ
+carrierNo None = 0
+carrierNo Uart = 1
+carrierNo Can = 2
+carrierNo Running = 3
+
+-- a session is on a carrier
+abbrev pub on : Carrier → Session → Bool
+on c s = eqb (s .carrier) (carrierNo c)
+
+-- none and running have only step 0, and expect 1
+abbrev pub resting : ℕ
+resting = 1
+
+-- what an idle session expects on a carrier
+abbrev pub idleExpects : Carrier → ℕ
+idleExpects None = resting
+idleExpects Uart = U.complementedByte
+idleExpects Can = C.oneFrame
+idleExpects Running = resting
+
+-- no staged bytes
+abbrev pub noBytes : List ℕ
+noBytes = replicate 257 0
+
+-- the speed at power on, and the largest
+abbrev pub freshSpeed : ℕ
+freshSpeed = 2
+
+abbrev pub largestSpeed : ℕ
+largestSpeed = 3
+
+-- ---- sound sessions
+
+-- a step is one of the carrier's, and may expect this
+abbrev pub stepSound : ℕ → ℕ → ℕ → Bool
+stepSound c step e =
+    if eqb c (carrierNo Uart) then ltb step (length U.steps) && U.expects (U.stepOf step) e
+    else if eqb c (carrierNo Can) then ltb step (length C.steps) && C.expects (C.stepOf step) e
+    else eqb step 0 && eqb e resting
+
+-- unsound exactly when carrier or speed exceeds 3, the step is not one of the carrier's, expected is not allowed for the step, or taken is not below expected
+unfoldable pub sound : Session → Bool
+sound s =
+    leb (s .carrier) (carrierNo Running) && leb (s .speed) largestSpeed
+    && stepSound (s .carrier) (s .step) (s .expected)
+    && ltb (s .taken) (s .expected)
+
+-- ---- the sessions that follow
+
+-- power on: speed 2, expected 1 and every other number 0
+abbrev pub fresh : Session
+fresh = record {
+  carrier = carrierNo None;
+  step = 0;
+  taken = 0;
+  expected = resting;
+  address = 0;
+  speed = freshSpeed;
+  staged = noBytes;
+}
+
+-- an entered step has taken 0, and its staged bytes are 0
+abbrev pub entered : Carrier → ℕ → ℕ → ℕ → ℕ → Session
+entered c step e a v = record {
+  carrier = carrierNo c;
+  step = step;
+  taken = 0;
+  expected = e;
+  address = a;
+  speed = v;
+  staged = noBytes;
+}
+
+-- idle on a carrier, at a speed, with the address 0
+abbrev pub idle : Carrier → ℕ → Session
+idle c v = entered c 0 (idleExpects c) 0 v
+
+-- running: the target as address, every other number as fresh
+abbrev pub running : ℕ → Session
+running a = entered Running 0 resting a freshSpeed
+
+-- how far a session has come with its step
+abbrev pub progress : Session → Progress
+progress s = record { taken = s .taken; expected = s .expected; address = s .address; staged = s .staged }
+
+-- bytes are taken, as far as they are expected
+abbrev pub gathered : List ℕ → Session → Session
+gathered new s = record {
+  carrier = s .carrier;
+  step = s .step;
+  taken = s .taken + length (fitting (progress s) new);
+  expected = s .expected;
+  address = s .address;
+  speed = s .speed;
+  staged = stagedWith (progress s) new;
+}
+
+-- the session after an input of a carrier that brought some bytes
+unfoldable pub after : Carrier → List ℕ → Next → Session → Session
+after c new Stay s = s
+after c new Reset s = fresh
+after c new Gather s = gathered new s
+after c new GoIdle s = idle c (s .speed)
+after c new (SetSpeed v) s = idle c v
+after c new (Enter step e) s = entered c step e (s .address) (s .speed)
+after c new (EnterAt step e a) s = entered c step e a (s .speed)
+after c new (Run a) s = running a

@@ -1,0 +1,128 @@
+-- The CAN conversation, command by command and step by step: document 01, "CAN conversation".
+use Prim.Native.Nat.{ℕ, _+_, _-_}
+use mathlib.Core.Bool.{Bool, true, not, _||_}
+use mathlib.Core.List.{List, [], _∷_, map}
+use lib.ListN.{length, getD, take, drop}
+use lib.Dec.{eqb, leb}
+use Rattle.words.specs.Bytes.{number}
+use Rattle.board.specs.Board.{address, identity}
+use Rattle.board.specs.Quantities.{countOf, lessOne}
+use Rattle.board.specs.declared.Address.{Address}
+use Rattle.memories.specs.declared.Change.the-variants.{EraseAll}
+use Rattle.command.specs.Commands.{code, canCommands, lookUp}
+use Rattle.command.specs.Decision.{if_gives_else_, answer, alter, nack, judged}
+use Rattle.command.specs.Progress.{Progress, stagedWith, short, overfull}
+use Rattle.command.specs.Rules.{unlessProtected, telling, reading, writeVerdict, writing, selectorOf, erasing, eraseAllVerdict, protecting, releasing, locking, unlocking, resetting, jumping, summing}
+use Rattle.command.specs.declared.Command.{Command}
+use Rattle.command.specs.declared.Command.the-variants.{GetCommands, GetVersion, GetDeviceId, ReadMemory, Jump, WriteMemory, Erase, ProgramProtect, ProgramUnprotect, AccessProtect, AccessUnprotect, FirmwareCrc, ResetDevice, Speed}
+use Rattle.command.specs.declared.Decision.{Decision}
+use Rattle.command.specs.declared.Lookup.{Lookup}
+use Rattle.command.specs.declared.Lookup.the-variants.{Known, Unknown}
+use Rattle.command.specs.declared.Next.the-variants.{Gather, GoIdle, SetSpeed, Enter, EnterAt}
+use Rattle.command.specs.declared.Reply.the-variants.{Silence, Ack, AckAck, AckNack, Commands, Version, DeviceId}
+use Rattle.command.specs.declared.Selector.{Selector}
+use Rattle.command.specs.declared.Selector.the-variants.{Listed, Special, Impossible}
+use Rattle.command.specs.declared.Verdict.{Verdict}
+use Rattle.command.specs.declared.Verdict.the-variants.{Fine, No}
+use Rattle.command.specs.declared.Why.the-variants.{BadComplement, UnknownCommand, OtherFrame, BadRange, BadSpeed}
+use Rattle.can.specs.Frames.{Frame, carried}
+use Rattle.can.specs.Steps.{stepNo, expectedForNumbers, numbersIn}
+use Rattle.can.specs.declared.Step.{Step}
+use Rattle.can.specs.declared.Step.the-variants.{Idle, WriteData, EraseList, ProtectList}
+
+-- the ID that asks for a connection
+abbrev pub connectId : ℕ
+connectId = 0x79
+
+-- 0x00 tells n - 1, version, list, where n counts version and commands
+abbrev pub commandBytes : List ℕ
+commandBytes = (length canCommands + 1 - 1) ∷ identity .version ∷ map code canCommands
+
+-- the DLC that a command must have; the rest ignore DLC and data
+abbrev pub dlcFits : Command → ℕ → Bool
+dlcFits GetCommands n = true
+dlcFits GetVersion n = true
+dlcFits GetDeviceId n = true
+dlcFits ReadMemory n = eqb n 5
+dlcFits Jump n = eqb n 4
+dlcFits WriteMemory n = eqb n 5
+dlcFits Erase n = eqb n 2
+dlcFits ProgramProtect n = eqb n 1
+dlcFits ProgramUnprotect n = true
+dlcFits AccessProtect n = true
+dlcFits AccessUnprotect n = true
+dlcFits FirmwareCrc n = eqb n 6
+dlcFits ResetDevice n = true
+dlcFits Speed n = eqb n 2
+
+-- the address that a command frame's data begin with
+abbrev pub addressIn : List ℕ → Address
+addressIn d = address (number (take 4 d))
+
+-- the count, sent as one less, that data bytes write
+abbrev pub countIn : List ℕ → ℕ
+countIn d = countOf (lessOne (number d))
+
+-- special erases: ACK, then ACK or NACK
+unfoldable pub erasedOrNot : Verdict → Decision
+erasedOrNot Fine = alter AckAck EraseAll GoIdle
+erasedOrNot (No w) = answer (AckNack w) GoIdle
+
+-- a list is announced, or a special erase is done
+unfoldable pub selected : List ℕ → Selector → Decision
+selected usd (Listed n) = answer Ack (Enter (stepNo EraseList) (expectedForNumbers (countOf n)))
+selected usd (Special n) = erasedOrNot (eraseAllVerdict usd n)
+selected usd Impossible = nack BadRange
+
+-- a command frame's data, and what the command asks for
+unfoldable pub obeyed : List ℕ → List ℕ → Command → Decision
+obeyed usd d GetCommands = telling Commands
+obeyed usd d GetVersion = telling Version
+obeyed usd d GetDeviceId = telling DeviceId
+obeyed usd d ReadMemory = reading (addressIn d) (countIn (drop 4 d))
+obeyed usd d Jump = jumping (addressIn d)
+obeyed usd d WriteMemory =
+    judged (writeVerdict usd (addressIn d) (countIn (drop 4 d)))
+    (answer Ack (EnterAt (stepNo WriteData) (countIn (drop 4 d)) (addressIn d .0)))
+obeyed usd d Erase = selected usd (selectorOf (number d))
+obeyed usd d ProgramProtect = answer Ack (Enter (stepNo ProtectList) (countIn d))
+obeyed usd d ProgramUnprotect = releasing
+obeyed usd d AccessProtect = locking
+obeyed usd d AccessUnprotect = unlocking
+obeyed usd d FirmwareCrc = summing (addressIn d) (countIn (drop 4 d))
+obeyed usd d ResetDevice = resetting
+obeyed usd d Speed =
+    if leb (getD d 0 0) 3 gives answer AckAck (SetSpeed (getD d 0 0)) else nack BadSpeed
+
+-- the ID is the command; a wrong DLC, no command, or a protected one: NACK
+unfoldable pub commanded : List ℕ → List ℕ → Lookup → Decision
+commanded usd d (Known c) =
+    if dlcFits c (length d) gives unlessProtected usd c (obeyed usd d c) else nack BadComplement
+commanded usd d Unknown = nack UnknownCommand
+
+-- frames of the running ID are gathered until all bytes are there; another ID, or DLC 0, ends the command
+unfoldable pub gathering : Command → Progress → Frame → Decision → Decision
+gathering c p f done =
+    if not (eqb (f .id) (code c)) || eqb (f .dlc) 0 gives nack OtherFrame
+    else if short p (carried f) gives answer Silence Gather
+    else done
+
+-- extra bytes in an index list refuse it
+unfoldable pub unlessExtra : Progress → Frame → Decision → Decision
+unlessExtra p f d = if overfull p (carried f) gives nack BadRange else d
+
+-- one frame of a connected host
+unfoldable pub heard : Step → Progress → List ℕ → Frame → Decision
+heard Idle p usd f = commanded usd (carried f) (lookUp canCommands (f .id))
+heard WriteData p usd f = gathering WriteMemory p f (writing usd (address (p .address)) (p .expected))
+heard EraseList p usd f =
+    gathering Erase p f (unlessExtra p f (erasing usd (stagedWith p (carried f)) (numbersIn (p .expected))))
+heard ProtectList p usd f =
+    gathering ProgramProtect p f (unlessExtra p f (protecting (stagedWith p (carried f)) (p .expected)))
+
+-- the ID that replies bear: the frame's own, or while gathering the running one
+abbrev pub bears : Step → Frame → ℕ
+bears Idle f = f .id
+bears WriteData f = code WriteMemory
+bears EraseList f = code Erase
+bears ProtectList f = code ProgramProtect

@@ -1,0 +1,36 @@
+-- How decisions are made of tests.
+use Prim.Native.Nat.{ℕ}
+use mathlib.Core.Bool.{Bool, true, false}
+use Rattle.memories.specs.declared.Change.{Change}
+use Rattle.memories.specs.declared.Change.the-variants.{Nothing}
+use Rattle.command.specs.declared.Decision.{Decision}
+use Rattle.command.specs.declared.Next.{Next}
+use Rattle.command.specs.declared.Next.the-variants.{GoIdle}
+use Rattle.command.specs.declared.Reply.{Reply}
+use Rattle.command.specs.declared.Reply.the-variants.{Silence, Ack, Nack}
+use Rattle.command.specs.declared.Verdict.{Verdict}
+use Rattle.command.specs.declared.Verdict.the-variants.{Fine, No}
+use Rattle.command.specs.declared.Why.{Why}
+
+infixr 5 if_gives_else_
+-- the first decision where the test holds, and the second where it does not
+unfoldable pub if_gives_else_ : Bool → Decision → Decision → Decision
+if true gives a else b = a
+if false gives a else b = b
+
+-- a reply and what becomes of the session; the memories stay
+abbrev pub answer : Reply → Next → Decision
+answer r n = record { reply = r; change = Nothing; next = n }
+
+-- a reply to a change that is made
+abbrev pub alter : Reply → Change → Next → Decision
+alter r c n = record { reply = r; change = c; next = n }
+
+-- after a NACK the session is idle
+abbrev pub nack : Why → Decision
+nack w = answer (Nack w) GoIdle
+
+-- a decision that a rule may forbid
+unfoldable pub judged : Verdict → Decision → Decision
+judged Fine d = d
+judged (No w) d = nack w

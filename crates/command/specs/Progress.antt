@@ -1,0 +1,30 @@
+-- How a step gathers its bytes, said once for one UART byte and for the bytes of a frame of any size.
+use Prim.Native.Nat.{ℕ, _+_, _-_}
+use mathlib.Core.Bool.{Bool}
+use mathlib.Core.List.{List}
+use lib.ListN.{length, take}
+use lib.Dec.{ltb}
+use Rattle.words.specs.Over.{put}
+
+-- how far a session has come with its step
+pub record Progress : Type 0 where
+  pub taken : ℕ
+  pub expected : ℕ
+  pub address : ℕ
+  pub staged : List ℕ
+
+-- the new bytes that the step still expects; extra ones are dropped
+abbrev pub fitting : Progress → List ℕ → List ℕ
+fitting p new = take (p .expected - p .taken) new
+
+-- each byte taken is put at index taken, the others stay
+abbrev pub stagedWith : Progress → List ℕ → List ℕ
+stagedWith p new = put (p .staged) (p .taken) (fitting p new)
+
+-- more bytes are expected after the new ones
+abbrev pub short : Progress → List ℕ → Bool
+short p new = ltb (p .taken + length new) (p .expected)
+
+-- the new bytes are more than were expected
+abbrev pub overfull : Progress → List ℕ → Bool
+overfull p new = ltb (p .expected) (p .taken + length new)

@@ -1,0 +1,50 @@
+-- What each reply says, message by message.
+use Prim.Native.Nat.{ℕ}
+use mathlib.Core.List.{List, [], _∷_, _++_}
+use Rattle.words.specs.Bytes.{byteOf, fourBytes}
+use Rattle.words.specs.Lists.{part, singly}
+use Rattle.board.specs.Board.{identity}
+use Rattle.crc.specs.Crc.{crc}
+use Rattle.memories.specs.Memories.{Memories, bytesOf}
+use Rattle.command.specs.declared.Reply.{Reply}
+use Rattle.command.specs.declared.Reply.the-variants.{Silence, Ack, AckAck, Nack, AckNack, Commands, Version, DeviceId, Data, Crc}
+
+-- ACK is 0x79, NACK 0x1F
+abbrev pub ackByte : ℕ
+ackByte = 0x79
+
+abbrev pub nackByte : ℕ
+nackByte = 0x1F
+
+abbrev pub ack : List ℕ
+ack = ackByte ∷ []
+
+abbrev pub nak : List ℕ
+nak = nackByte ∷ []
+
+-- ACK, then bytes one by one, then ACK
+abbrev pub told : List ℕ → List (List ℕ)
+told bytes = ack ∷ singly bytes ++ ack ∷ []
+
+-- 0x01: version, BID
+abbrev pub versionBytes : List ℕ
+versionBytes = identity .version ∷ identity .«bid_first» ∷ identity .«bid_second» ∷ []
+
+-- 0x02: 0x04, product bits 8-15, 0-7, 24-31, 16-23, project
+abbrev pub deviceBytes : List ℕ
+deviceBytes =
+    0x04 ∷ byteOf (identity .product) 1 ∷ byteOf (identity .product) 0 ∷ byteOf (identity .product) 3
+    ∷ byteOf (identity .product) 2 ∷ identity .project ∷ []
+
+-- the messages of a reply, given what the carrier tells of its commands
+unfoldable pub says : List ℕ → Reply → Memories → List (List ℕ)
+says commands Silence m = []
+says commands Ack m = ack ∷ []
+says commands AckAck m = ack ∷ ack ∷ []
+says commands (Nack w) m = nak ∷ []
+says commands (AckNack w) m = ack ∷ nak ∷ []
+says commands Commands m = told commands
+says commands Version m = told versionBytes
+says commands DeviceId m = told deviceBytes
+says commands (Data r at x) m = ack ∷ part at x (bytesOf r m) ∷ []
+says commands (Crc at n) m = ack ∷ fourBytes (crc (part at n (m .flash))) ∷ []

@@ -1,0 +1,127 @@
+-- The UART conversation, step by step: document 01, "UART conversation".
+use Prim.Native.Nat.{ℕ, _+_, _*_}
+use mathlib.Core.Bool.{Bool}
+use mathlib.Core.List.{List, [], _∷_, _++_, map}
+use lib.ListN.{length, getD, take}
+use lib.Dec.{eqb}
+use Rattle.words.specs.Bytes.{complement, xorAll, number, twoBytes}
+use Rattle.board.specs.Board.{address, identity}
+use Rattle.board.specs.Quantities.{countOf, lessOne, oneLess}
+use Rattle.board.specs.Regions.{known, sectorStart}
+use Rattle.board.specs.declared.Address.{Address}
+use Rattle.memories.specs.declared.Change.the-variants.{EraseAll}
+use Rattle.command.specs.Commands.{code, uartCommands, lookUp}
+use Rattle.command.specs.Decision.{if_gives_else_, answer, alter, nack, judged}
+use Rattle.command.specs.Progress.{Progress, stagedWith, short}
+use Rattle.command.specs.Rules.{unlessProtected, telling, reading, writing, selectorOf, erasing, eraseAllVerdict, protecting, releasing, locking, unlocking, resetting, jumping, summing}
+use Rattle.command.specs.declared.Command.{Command}
+use Rattle.command.specs.declared.Command.the-variants.{GetCommands, GetVersion, GetDeviceId, ReadMemory, Jump, WriteMemory, Erase, ProgramProtect, ProgramUnprotect, AccessProtect, AccessUnprotect, FirmwareCrc, ResetDevice, Speed}
+use Rattle.command.specs.declared.Decision.{Decision}
+use Rattle.command.specs.declared.Lookup.{Lookup}
+use Rattle.command.specs.declared.Lookup.the-variants.{Known, Unknown}
+use Rattle.command.specs.declared.Next.the-variants.{Gather, GoIdle, Enter, EnterAt}
+use Rattle.command.specs.declared.Reply.the-variants.{Silence, Ack, Commands, Version, DeviceId}
+use Rattle.command.specs.declared.Selector.{Selector}
+use Rattle.command.specs.declared.Selector.the-variants.{Listed, Special, Impossible}
+use Rattle.command.specs.declared.Why.the-variants.{BadComplement, UnknownCommand, BadChecksum, BadAddress, BadRange}
+use Rattle.uart.specs.Steps.{stepNo, complementedByte, checkedAddress, oneByte, selectorBytes, checkedCount, expectedFor, countIn, expectedForNumbers, numbersIn}
+use Rattle.uart.specs.declared.Step.{Step}
+use Rattle.uart.specs.declared.Step.the-variants.{Idle, ReadAddress, JumpAddress, WriteAddress, CrcAddress, ReadLength, WriteLength, WriteData, EraseSelector, SpecialCheck, EraseList, ProtectLength, ProtectList, CrcCount}
+
+-- the byte that asks for a connection
+abbrev pub connectByte : ℕ
+connectByte = 0x7F
+
+-- 0x00 tells n, version, list, where n counts version and commands
+abbrev pub commandBytes : List ℕ
+commandBytes = (length uartCommands + 1) ∷ identity .version ∷ map code uartCommands
+
+-- the second byte is the complement of the first
+abbrev pub complemented : List ℕ → Bool
+complemented bytes = eqb (getD bytes 1 0) (complement (getD bytes 0 0))
+
+-- the checksum is the XOR of the bytes that it is over
+abbrev pub sums : List ℕ → ℕ → Bool
+sums bytes checksum = eqb checksum (xorAll bytes)
+
+-- ACK, and a step is entered
+abbrev pub goOn : Step → ℕ → Decision
+goOn s e = answer Ack (Enter (stepNo s) e)
+
+-- the command's ACK, with what it asks for
+unfoldable pub obeyed : Command → Decision
+obeyed GetCommands = telling Commands
+obeyed GetVersion = telling Version
+obeyed GetDeviceId = telling DeviceId
+obeyed ReadMemory = goOn ReadAddress checkedAddress
+obeyed Jump = goOn JumpAddress checkedAddress
+obeyed WriteMemory = goOn WriteAddress checkedAddress
+obeyed Erase = goOn EraseSelector selectorBytes
+obeyed ProgramProtect = goOn ProtectLength oneByte
+obeyed ProgramUnprotect = releasing
+obeyed AccessProtect = locking
+obeyed AccessUnprotect = unlocking
+obeyed FirmwareCrc = goOn CrcAddress checkedAddress
+obeyed ResetDevice = resetting
+obeyed Speed = nack UnknownCommand
+
+-- unknown or protected: NACK
+unfoldable pub commanded : List ℕ → Lookup → Decision
+commanded usd (Known c) = unlessProtected usd c (obeyed c)
+commanded usd Unknown = nack UnknownCommand
+
+-- an address and the XOR of its four bytes
+unfoldable pub addressed : (Address → Decision) → List ℕ → Decision
+addressed go bytes =
+    if sums (take 4 bytes) (getD bytes 4 0) gives go (address (number (take 4 bytes)))
+    else nack BadChecksum
+
+-- an address that passes a test is kept, and a step is entered
+unfoldable pub keptIf : (Address → Bool) → Step → ℕ → Address → Decision
+keptIf good s e a = if good a gives answer Ack (EnterAt (stepNo s) e (a .0)) else nack BadAddress
+
+-- two selector bytes: the special one is kept in the address
+unfoldable pub selected : Selector → Decision
+selected (Listed n) = answer Silence (Enter (stepNo EraseList) (expectedForNumbers (countOf n)))
+selected (Special n) = answer Silence (EnterAt (stepNo SpecialCheck) oneByte n)
+selected Impossible = nack BadRange
+
+-- a step whose bytes are all there: what it expected, the session's address, the staged bytes, user system data
+unfoldable pub complete : Step → ℕ → ℕ → List ℕ → List ℕ → Decision
+complete Idle e a bytes usd =
+    if complemented bytes gives commanded usd (lookUp uartCommands (getD bytes 0 0)) else nack BadComplement
+complete ReadAddress e a bytes usd = addressed (keptIf known ReadLength complementedByte) bytes
+complete JumpAddress e a bytes usd = addressed jumping bytes
+complete WriteAddress e a bytes usd = addressed (keptIf known WriteLength oneByte) bytes
+complete CrcAddress e a bytes usd = addressed (keptIf sectorStart CrcCount checkedCount) bytes
+complete ReadLength e a bytes usd =
+    if complemented bytes gives reading (address a) (countOf (lessOne (getD bytes 0 0))) else nack BadChecksum
+complete WriteLength e a bytes usd =
+    answer Silence (Enter (stepNo WriteData) (expectedFor (countOf (lessOne (getD bytes 0 0)))))
+complete WriteData e a bytes usd =
+    if sums (oneLess (countIn e) .0 ∷ take (countIn e) bytes) (getD bytes (countIn e) 0)
+    gives writing usd (address a) (countIn e)
+    else nack BadChecksum
+complete EraseSelector e a bytes usd = selected (selectorOf (number (take 2 bytes)))
+complete SpecialCheck e a bytes usd =
+    if sums (twoBytes a) (getD bytes 0 0) gives judged (eraseAllVerdict usd a) (alter Ack EraseAll GoIdle)
+    else nack BadChecksum
+complete EraseList e a bytes usd =
+    if sums (twoBytes (oneLess (numbersIn e) .0) ++ take (2 * numbersIn e) bytes) (getD bytes (2 * numbersIn e) 0)
+    gives erasing usd bytes (numbersIn e)
+    else nack BadChecksum
+complete ProtectLength e a bytes usd =
+    answer Silence (Enter (stepNo ProtectList) (expectedFor (countOf (lessOne (getD bytes 0 0)))))
+complete ProtectList e a bytes usd =
+    if sums (oneLess (countIn e) .0 ∷ take (countIn e) bytes) (getD bytes (countIn e) 0)
+    gives protecting bytes (countIn e)
+    else nack BadChecksum
+complete CrcCount e a bytes usd =
+    if sums (0xFF ∷ take 2 bytes) (getD bytes 2 0) gives summing (address a) (countOf (lessOne (number (take 2 bytes))))
+    else nack BadChecksum
+
+-- one byte of a connected host: gathered, or the last of its step
+unfoldable pub heard : Step → Progress → List ℕ → ℕ → Decision
+heard s p usd b =
+    if short p (b ∷ []) gives answer Silence Gather
+    else complete s (p .expected) (p .address) (stagedWith p (b ∷ [])) usd
