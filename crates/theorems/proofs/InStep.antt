@@ -1,0 +1,75 @@
+-- What it says of a session that it is in a step of a carrier: it is on no other carrier, and its step is that one.
+use mathlib.Core.Path.{_≡_, refl, ap, sym, _∙_}
+use mathlib.Core.Bool.{Bool, true, false, not, _&&_, _||_}
+use Prim.Native.Nat.{ℕ}
+use native.Mathlib.Omega.{arith}
+use lib.Dec.{T, eqb, eqb→eq}
+use Rattle.words.specs.Choice.{if_then_else_}
+use Rattle.words.proofs.Tests.{both-left, both-right}
+use Rattle.memories.specs.Memories.{proper}
+use Rattle.command.specs.Decision.{if_gives_else_, answer}
+use Rattle.command.specs.declared.Decision.{Decision}
+use Rattle.command.specs.declared.Next.the-variants.{Stay, GoIdle}
+use Rattle.command.specs.declared.Reply.the-variants.{Silence, Ack}
+use Rattle.boot.specs.Session.{on, carrierNo}
+use Rattle.boot.specs.Decide.{connected}
+use Rattle.boot.specs.Causes.{causeOf, accepts}
+use Rattle.boot.specs.Calls.{State, Input, Power, Byte, Framed, causeFor}
+use Rattle.boot.specs.declared.Carrier.{Carrier}
+use Rattle.boot.specs.declared.Carrier.the-variants.{None, Uart, Can}
+use Rattle.boot.specs.declared.Cause.{Cause}
+use Rattle.boot.specs.declared.Cause.the-variants.{WrongMemory}
+use Rattle.boot.specs.declared.Session.{Session}
+use Rattle.theorems.proofs.Holds.{Holds, split, either}
+
+-- a session is on one carrier
+pub one-carrier : (c k : Carrier) (s : Session) → (carrierNo c ≡ carrierNo k → ⊥) → T (on c s) → T (on k s) → ⊥
+one-carrier c k s n o q = n (sym (eqb→eq (s .carrier) (carrierNo c) o) ∙ eqb→eq (s .carrier) (carrierNo k) q)
+
+-- of a step on UART or a step on CAN, a session on one carrier is in that carrier's
+pub step-on : (c k : Carrier) (s : Session) (m n : ℕ) → (carrierNo k ≡ carrierNo c → ⊥)
+    → T ((on c s && eqb (s .step) m) || (on k s && eqb (s .step) n)) → T (on c s) → s .step ≡ m
+step-on c k s m n d h o = by-tests (on c s) (eqb (s .step) m) (eqb→eq (s .step) m) (on k s) (λ q. one-carrier k c s d q o) h
+  where
+    by-tests : (t u : Bool) → (T u → s .step ≡ m) → (v : Bool) → (T v → ⊥) → T ((t && u) || (v && eqb (s .step) n)) → s .step ≡ m
+    by-tests true true f v g h = f tt
+    by-tests true false f true g h = absurd (g tt)
+    by-tests true false f false g h = absurd h
+    by-tests false u f true g h = absurd (g tt)
+    by-tests false u f false g h = absurd h
+
+-- a session in a step on UART or on CAN is connected
+pub not-unconnected : (s : Session) (m n : ℕ) → T ((on Uart s && eqb (s .step) m) || (on Can s && eqb (s .step) n)) → T (on None s) → ⊥
+not-unconnected s m n h q =
+    by-tests (on Uart s) (λ o. one-carrier Uart None s (λ e. omega arith) o q) (on Can s) (λ o. one-carrier Can None s (λ e. omega arith) o q) h
+  where
+    by-tests : (t : Bool) → (T t → ⊥) → (u : Bool) → (T u → ⊥) → T ((t && eqb (s .step) m) || (u && eqb (s .step) n)) → ⊥
+    by-tests true f u g h = f tt
+    by-tests false f true g h = g tt
+    by-tests false f false g h = h
+
+-- what is decided on an input of a carrier: what the carrier hears, a connection, or nothing
+pub connected-holds : (P : Decision → Type 0) (c : Carrier) (s : Session) (calls : Bool) {d : Decision} → (T (on c s) → Holds P d)
+    → (T (on None s) → Holds P (answer Ack GoIdle)) → Holds P (answer Silence Stay) → Holds P (connected c s calls d)
+unfolding connected
+connected-holds P c s calls f g h =
+    split P (on c s) f (λ n. split P (on None s && calls) (λ q. g (both-left (on None s) calls q)) (λ q. h))
+
+-- ---- accepted inputs
+
+-- an input is a byte or a frame, and no power on
+abbrev pub isCall : Input → Bool
+isCall Power = false
+isCall (Byte room b) = true
+isCall (Framed room l) = true
+
+first-cause : (t : Bool) (c : Cause) → T (accepts (if not t then WrongMemory else c)) → T t
+first-cause true c h = tt
+first-cause false c h = h
+
+-- an accepted byte or frame finds memories of their proper sizes
+pub accepted-proper : (i : Input) (p : State) → T (isCall i) → T (accepts (causeFor i p)) → T (proper (p .memories))
+unfolding causeFor causeOf
+accepted-proper Power p h t = absurd h
+accepted-proper (Byte room b) p h t = first-cause (proper (p .memories)) _ t
+accepted-proper (Framed room l) p h t = first-cause (proper (p .memories)) _ t

@@ -1,0 +1,11 @@
+pub mod Talk
+pub mod Holds
+pub mod Locked
+pub mod Secrecy
+pub mod Honest
+pub mod Erase
+pub mod Read
+pub mod InStep
+pub mod Write
+pub mod Protect
+pub mod Determined

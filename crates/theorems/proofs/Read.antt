@@ -1,0 +1,26 @@
+-- The club's failure (c): a locked board reads nothing, since each of its decisions is discreet and the board stays locked and calm.
+use mathlib.Core.Bool.{Bool, true, false, not}
+use mathlib.Core.List.{List}
+use mathlib.Core.Path.{refl}
+use lib.Dec.{T}
+use Rattle.board.specs.Usd.{protectionOn}
+use Rattle.memories.specs.Memories.{Memories, proper}
+use Rattle.command.specs.Decision.{if_gives_else_, answer}
+use Rattle.command.specs.declared.Decision.{Decision}
+use Rattle.command.specs.declared.Next.the-variants.{Stay}
+use Rattle.command.specs.declared.Reply.the-variants.{Silence}
+use Rattle.boot.specs.Causes.{accepts}
+use Rattle.boot.specs.Calls.{State, Input, causeFor, decide, run}
+use Rattle.theorems.specs.Failures.{reads, NeverRead}
+use Rattle.theorems.specs.Secrecy.{powered, done, shut}
+use Rattle.theorems.proofs.Secrecy.{Twins, twins-fresh, twins-after, shows-nothing, quiet-done}
+
+pub never-read : (m : Memories) → T (proper m) → T (protectionOn (m .usd)) → NeverRead (powered m)
+never-read m pm l = record {
+  reads = λ is i k. quiet-done i (run is (powered m)) (run is (powered m)) (after is k);
+  silent = λ is i k. shows-nothing i (run is (powered m) .session) (done i (run is (powered m)) .reply)
+      (quiet-done i (run is (powered m)) (run is (powered m)) (after is k));
+}
+  where
+    after : (is : List Input) → T (shut is (powered m)) → Twins (run is (powered m)) (run is (powered m))
+    after is k = twins-after is (powered m) (powered m) (twins-fresh m m pm pm refl l) k

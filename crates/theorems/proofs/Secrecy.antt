@@ -1,0 +1,311 @@
+-- Demand 3: what is decided sees neither flash nor SRAM; under protection what is done shows and changes nothing of them; a wipe makes two boards one.
+use mathlib.Core.Path.{_≡_, refl, sym, ap, ap₂, _∙_, subst}
+use mathlib.Core.Bool.{Bool, true, false, not, _&&_}
+use mathlib.Core.List.{List, [], _∷_}
+use Prim.Native.Nat.{ℕ}
+use lib.Dec.{T, leb}
+use Rattle.words.specs.Choice.{if_then_else_}
+use Rattle.words.proofs.Tests.{both-left, both-right, both-hold, chosen}
+use Rattle.board.specs.Usd.{protectionOn}
+use Rattle.memories.specs.Memories.{Memories, proper}
+use Rattle.memories.specs.Effects.{effect, wiped}
+use Rattle.memories.specs.declared.Change.{Change}
+use Rattle.memories.specs.declared.Change.the-variants.{Nothing, Write, EraseAll, EraseSectors, ProtectOnly, Release, Lock, Unlock}
+use Rattle.command.specs.Decision.{if_gives_else_, answer}
+use Rattle.command.specs.Progress.{stagedWith}
+use Rattle.command.specs.Says.{says}
+use Rattle.command.specs.declared.Decision.{Decision}
+use Rattle.command.specs.declared.Next.the-variants.{Stay}
+use Rattle.command.specs.declared.Reply.{Reply}
+use Rattle.command.specs.declared.Reply.the-variants.{Silence, Ack, AckAck, Nack, AckNack, Commands, Version, DeviceId, Data, Crc}
+use Rattle.can.specs.Frames.{classic, isFrame}
+use Rattle.boot.specs.Session.{after, progress, fresh}
+use Rattle.boot.specs.Causes.{causeOf, accepts, uartRoom, canRoom}
+use Rattle.boot.specs.Calls.{State, Input, Power, Byte, Framed, Outcome, carrierOf, brings, commandsOf, causeFor, decide, sent, perform, refused, call, outcomes, run}
+use Rattle.boot.specs.declared.Cause.{Cause}
+use Rattle.boot.specs.declared.Cause.the-variants.{Accepted}
+use Rattle.boot.specs.declared.Session.{Session}
+use Rattle.theorems.specs.Failures.{reads}
+use Rattle.theorems.specs.Secrecy.{powered, done, unlocks, opens, shut, veiled, Seen, seen, seenOf, Alike, Secret}
+use Rattle.theorems.proofs.Locked.{calm, fixed, harmless, Discreet, decide-discreet, after-calm}
+
+-- ---- what a discreet act shows of the memories, and does to them
+
+-- a reply that does not read is the same whatever the memories hold, but for a CRC value
+pub shows-nothing : (i : Input) (s : Session) (r : Reply) → T (not (reads r)) → (m n : Memories)
+    → veiled i r (sent i s (says (commandsOf i) r m)) ≡ veiled i r (sent i s (says (commandsOf i) r n))
+unfolding says sent
+shows-nothing i s Silence h m n = refl
+shows-nothing i s Ack h m n = refl
+shows-nothing i s AckAck h m n = refl
+shows-nothing i s (Nack w) h m n = refl
+shows-nothing i s (AckNack w) h m n = refl
+shows-nothing i s Commands h m n = refl
+shows-nothing i s Version h m n = refl
+shows-nothing i s DeviceId h m n = refl
+shows-nothing i s (Data r at x) h m n = absurd h
+shows-nothing Power s (Crc at x) h m n = refl
+shows-nothing (Byte room b) s (Crc at x) h m n = refl
+shows-nothing (Framed room f) s (Crc at x) h m n = refl
+
+-- a harmless change that is no Access Unprotect is none
+changes-nothing : (c : Change) → T (harmless c) → T (not (unlocks c)) → (staged : List ℕ) (m : Memories) → effect c staged m ≡ m
+unfolding effect
+changes-nothing Nothing h k staged m = refl
+changes-nothing (Write r at x) h k staged m = absurd h
+changes-nothing EraseAll h k staged m = absurd h
+changes-nothing (EraseSectors x) h k staged m = absurd h
+changes-nothing (ProtectOnly x) h k staged m = absurd h
+changes-nothing Release h k staged m = absurd h
+changes-nothing Lock h k staged m = absurd h
+changes-nothing Unlock h k staged m = absurd k
+
+-- Access Unprotect leaves two locked boards that are alike in user system data with the same memories
+wipes-alike : (c : Change) → T (unlocks c) → (staged : List ℕ) (m n : Memories) → T (protectionOn (m .usd)) → m .usd ≡ n .usd
+    → effect c staged m ≡ effect c staged n
+unfolding effect wiped
+wipes-alike Nothing w staged m n l e = absurd w
+wipes-alike (Write r at x) w staged m n l e = absurd w
+wipes-alike EraseAll w staged m n l e = absurd w
+wipes-alike (EraseSectors x) w staged m n l e = absurd w
+wipes-alike (ProtectOnly x) w staged m n l e = absurd w
+wipes-alike Release w staged m n l e = absurd w
+wipes-alike Lock w staged m n l e = absurd w
+wipes-alike Unlock w staged m n l e =
+    chosen (protectionOn (m .usd)) (wiped m) m l
+    ∙ ap (λ (u : List ℕ). wiped (record { flash = []; sram = []; usd = u })) e
+    ∙ sym (chosen (protectionOn (n .usd)) (wiped n) n (subst (λ (u : List ℕ). T (protectionOn u)) e l))
+
+-- a fixed reply is the same whatever the memories hold
+says-alike : (k : List ℕ) (r : Reply) → T (fixed r) → (m n : Memories) → says k r m ≡ says k r n
+unfolding says
+says-alike k Silence h m n = refl
+says-alike k Ack h m n = refl
+says-alike k AckAck h m n = refl
+says-alike k (Nack w) h m n = refl
+says-alike k (AckNack w) h m n = refl
+says-alike k Commands h m n = refl
+says-alike k Version h m n = refl
+says-alike k DeviceId h m n = refl
+says-alike k (Data r at x) h m n = absurd h
+says-alike k (Crc at x) h m n = absurd h
+
+-- ---- two boards
+
+-- alike in session and user system data, locked and calm, with memories of their proper sizes
+pub record Twins (p q : State) : Type 0 where
+  session : p .session ≡ q .session
+  usd : p .memories .usd ≡ q .memories .usd
+  locked : T (protectionOn (p .memories .usd))
+  calm : T (calm (p .session))
+  proper-p : T (proper (p .memories))
+  proper-q : T (proper (q .memories))
+
+module _ (i : Input) (p q : State) (t : Twins p q) where
+  causes-alike : causeFor i p ≡ causeFor i q
+  unfolding causeFor
+  causes-alike = by-input i
+    where
+      memories-alike : proper (p .memories) ≡ proper (q .memories)
+      memories-alike = both-hold (proper (p .memories)) (proper (q .memories)) (t .proper-p) (t .proper-q)
+
+      by-input : (j : Input) → causeFor j p ≡ causeFor j q
+      by-input Power = refl
+      by-input (Byte room b) = ap₂ (λ (k : Bool) (s : Session). causeOf k (leb uartRoom room) true s) memories-alike (t .session)
+      by-input (Framed room f) = ap₂ (λ (k : Bool) (s : Session). causeOf k (leb canRoom room) (isFrame classic f) s) memories-alike (t .session)
+
+  decisions-alike : decide i (p .session) (p .memories .usd) ≡ decide i (q .session) (q .memories .usd)
+  decisions-alike = ap₂ (decide i) (t .session) (t .usd)
+
+-- a call, what it does and what is seen of it, by whether it is accepted, its cause and its decision
+abbrev callBy : Input → State → Bool → Cause → Decision → Outcome
+callBy i p t c d = if t then perform i p d else refused c p
+
+abbrev doneBy : Bool → Decision → Decision
+doneBy t d = if t gives d else answer Silence Stay
+
+abbrev seenBy : Input → State → Bool → Cause → Decision → Seen
+seenBy i p t c d = record {
+  cause = callBy i p t c d .cause;
+  reply = veiled i (doneBy t d .reply) (callBy i p t c d .reply);
+  session = callBy i p t c d .state .session;
+  usd = callBy i p t c d .state .memories .usd;
+}
+
+-- ---- one call
+
+module _ (i : Input) (c : Cause) (d : Decision) (f : Discreet (carrierOf i) d) where
+  -- the memories stay, unless it opens
+  keeps : (p : State) (t : Bool) → T (not (unlocks (doneBy t d .change))) → callBy i p t c d .state .memories ≡ p .memories
+  unfolding perform if_gives_else_
+  keeps p true k = changes-nothing (d .change) (f .harmless) k (stagedWith (progress (p .session)) (brings i)) (p .memories)
+  keeps p false k = refl
+
+  -- the session stays calm
+  stays-calm : (p : State) (t : Bool) → T (calm (p .session)) → T (calm (callBy i p t c d .state .session))
+  unfolding perform
+  stays-calm p true h = after-calm (carrierOf i) (brings i) (d .next) (p .session) (f .calm) h
+  stays-calm p false h = h
+
+  module _ (p q : State) (w : Twins p q) where
+    -- the reply is alike, but for a CRC value
+    replies-alike : (t : Bool)
+        → veiled i (doneBy t d .reply) (callBy i p t c d .reply) ≡ veiled i (doneBy t d .reply) (callBy i q t c d .reply)
+    unfolding perform if_gives_else_
+    replies-alike true =
+        shows-nothing i (p .session) (d .reply) (f .quiet) (p .memories) (q .memories)
+        ∙ ap (λ (s : Session). veiled i (d .reply) (sent i s (says (commandsOf i) (d .reply) (q .memories)))) (w .session)
+    replies-alike false = refl
+
+    causes-of-alike : (t : Bool) → callBy i p t c d .cause ≡ callBy i q t c d .cause
+    unfolding perform
+    causes-of-alike true = refl
+    causes-of-alike false = refl
+
+    sessions-alike : (t : Bool) → callBy i p t c d .state .session ≡ callBy i q t c d .state .session
+    unfolding perform
+    sessions-alike true = ap (after (carrierOf i) (brings i) (d .next)) (w .session)
+    sessions-alike false = w .session
+
+    -- all that is seen is alike, unless it opens
+    seen-alike : (t : Bool) → T (not (unlocks (doneBy t d .change))) → seenBy i p t c d ≡ seenBy i q t c d
+    seen-alike t k = λ j. record {
+      cause = causes-of-alike t j;
+      reply = replies-alike t j;
+      session = sessions-alike t j;
+      usd = (ap (λ (m : Memories). m .usd) (keeps p t k) ∙ w .usd ∙ sym (ap (λ (m : Memories). m .usd) (keeps q t k))) j;
+    }
+
+    -- where it opens, everything is alike
+    opens-alike : (t : Bool) → T (unlocks (doneBy t d .change)) → callBy i p t c d ≡ callBy i q t c d
+    unfolding perform if_gives_else_
+    opens-alike true o = λ j. record {
+      cause = Accepted;
+      reply = (ap (λ (s : Session). sent i s (says (commandsOf i) (d .reply) (p .memories))) (w .session)
+          ∙ ap (sent i (q .session)) (says-alike (commandsOf i) (d .reply) (f .fixed o) (p .memories) (q .memories))) j;
+      state = record {
+        session = after (carrierOf i) (brings i) (d .next) (w .session j);
+        memories = (ap (λ (s : Session). effect (d .change) (stagedWith (progress s) (brings i)) (p .memories)) (w .session)
+            ∙ wipes-alike (d .change) o (stagedWith (progress (q .session)) (brings i)) (p .memories) (q .memories) (w .locked) (w .usd)) j;
+      };
+    }
+    opens-alike false o = absurd o
+
+-- what one input that does not open leaves of two boards
+record One (i : Input) (p q : State) : Type 0 where
+  seen : seen i p ≡ seen i q
+  first : call i p .state .memories ≡ p .memories
+  second : call i q .state .memories ≡ q .memories
+  twins : Twins (call i p .state) (call i q .state)
+
+module _ (i : Input) (p q : State) (w : Twins p q) where
+  t : Bool
+  t = accepts (causeFor i p)
+
+  d : Decision
+  d = decide i (p .session) (p .memories .usd)
+
+  f : Discreet (carrierOf i) (decide i (p .session) (p .memories .usd))
+  f = decide-discreet i (p .session) (p .memories .usd) (w .locked) (w .calm) .holds
+
+  -- the second board's cause and decision are the first one's
+  second-call : call i q ≡ callBy i q (accepts (causeFor i p)) (causeFor i p) (decide i (p .session) (p .memories .usd))
+  unfolding call
+  second-call =
+      ap₂ (λ (c : Cause) (e : Decision). callBy i q (accepts c) c e) (sym (causes-alike i p q w)) (sym (decisions-alike i p q w))
+
+  second-done : done i q ≡ done i p
+  unfolding done
+  second-done = ap₂ (λ (c : Cause) (e : Decision). doneBy (accepts c) e) (sym (causes-alike i p q w)) (sym (decisions-alike i p q w))
+
+  -- the first board does not read
+  pub quiet-done : T (not (reads (done i p .reply)))
+  unfolding done if_gives_else_
+  quiet-done = by-test (accepts (causeFor i p))
+    where
+      by-test : (t : Bool) → T (not (reads (doneBy t (decide i (p .session) (p .memories .usd)) .reply)))
+      by-test true = f .quiet
+      by-test false = tt
+
+  opening-alike : opens i p ≡ opens i q
+  unfolding opens
+  opening-alike = ap (λ (e : Decision). unlocks (e .change)) (sym second-done)
+
+  one : T (not (opens i p)) → One i p q
+  unfolding opens done seen call t d
+  one k = record {
+    seen =
+        seen-alike i (causeFor i p) d f p q w t k
+        ∙ ap₂ (λ (o : Outcome) (e : Decision). record {
+          cause = o .cause;
+          reply = veiled i (e .reply) (o .reply);
+          session = o .state .session;
+          usd = o .state .memories .usd;
+        }) (sym second-call) (sym second-done);
+    first = first;
+    second = second;
+    twins = record {
+      session = sessions-alike i (causeFor i p) d f p q w t ∙ ap (λ (o : Outcome). o .state .session) (sym second-call);
+      usd = ap (λ (m : Memories). m .usd) first ∙ w .usd ∙ sym (ap (λ (m : Memories). m .usd) second);
+      locked = subst (λ (m : Memories). T (protectionOn (m .usd))) (sym first) (w .locked);
+      calm = stays-calm i (causeFor i p) d f p t (w .calm);
+      proper-p = subst (λ (m : Memories). T (proper m)) (sym first) (w .proper-p);
+      proper-q = subst (λ (m : Memories). T (proper m)) (sym second) (w .proper-q);
+    };
+  }
+    where
+      first : call i p .state .memories ≡ p .memories
+      first = keeps i (causeFor i p) d f p t k
+
+      second : call i q .state .memories ≡ q .memories
+      second = ap (λ (o : Outcome). o .state .memories) second-call ∙ keeps i (causeFor i p) d f q t k
+
+  opened : T (opens i p) → call i p ≡ call i q
+  unfolding opens done call t d
+  opened o = opens-alike i (causeFor i p) d f p q w t o ∙ sym second-call
+
+-- ---- a run of inputs
+
+before : (is : List Input) (p q : State) → Twins p q → T (shut is p) → Alike is p q
+unfolding shut seenOf run
+before [] p q w k = record { seen = refl; first = refl; second = refl }
+before (i ∷ is) p q w k =
+    let o : One i p q = one i p q w (both-left (not (opens i p)) (shut is (call i p .state)) k) in
+    let r : Alike is (call i p .state) (call i q .state) =
+    before is (call i p .state) (call i q .state) (o .twins) (both-right (not (opens i p)) (shut is (call i p .state)) k) in
+    record {
+      seen = ap₂ {C = List Seen} (λ (x : Seen) (xs : List Seen). x ∷ xs) (o .seen) (r .seen);
+      first = r .first ∙ o .first;
+      second = r .second ∙ o .second;
+    }
+
+pub twins-after : (is : List Input) (p q : State) → Twins p q → T (shut is p) → Twins (run is p) (run is q)
+unfolding shut run
+twins-after [] p q w k = w
+twins-after (i ∷ is) p q w k =
+    twins-after is (call i p .state) (call i q .state) (one i p q w (both-left (not (opens i p)) (shut is (call i p .state)) k) .twins)
+    (both-right (not (opens i p)) (shut is (call i p .state)) k)
+
+-- outcomes that begin with the same call are the same
+outcomes-alike : (i : Input) (js : List Input) (p q : State) → call i p ≡ call i q → outcomes (i ∷ js) p ≡ outcomes (i ∷ js) q
+unfolding outcomes
+outcomes-alike i js p q e = ap (λ (o : Outcome). o ∷ outcomes js (o .state)) e
+
+-- two boards freshly powered are alike
+pub twins-fresh : (m n : Memories) → T (proper m) → T (proper n) → m .usd ≡ n .usd → T (protectionOn (m .usd))
+    → Twins (powered m) (powered n)
+unfolding calm
+twins-fresh m n pm pn e l = record { session = refl; usd = e; locked = l; calm = tt; proper-p = pm; proper-q = pn }
+
+-- demand 3
+pub secret : (m n : Memories) → T (proper m) → T (proper n) → m .usd ≡ n .usd → T (protectionOn (m .usd))
+    → Secret (powered m) (powered n)
+secret m n pm pn e l = record {
+  before = λ is k. before is (powered m) (powered n) twins k;
+  opening = λ is i k. opening-alike i (run is (powered m)) (run is (powered n)) (twins-after is (powered m) (powered n) twins k);
+  after = λ is i js k o. outcomes-alike i js (run is (powered m)) (run is (powered n))
+      (opened i (run is (powered m)) (run is (powered n)) (twins-after is (powered m) (powered n) twins k) o);
+}
+  where
+    twins : Twins (powered m) (powered n)
+    twins = twins-fresh m n pm pn e l

@@ -1,0 +1,4 @@
+pub mod Talk
+pub mod Secrecy
+pub mod Failures
+pub mod Determined

@@ -1,0 +1,109 @@
+-- Demand 3: two locked boards that differ in flash and SRAM answer alike until an obeyed Access Unprotect, and agree in everything after it.
+use Prim.Native.Nat.{ℕ, _+_}
+use mathlib.Core.Path.{_≡_}
+use mathlib.Core.Bool.{Bool, true, false, not, _&&_}
+use mathlib.Core.List.{List, [], _∷_}
+use lib.ListN.{replicate}
+use lib.Dec.{T}
+use Rattle.words.specs.Over.{put}
+use Rattle.memories.specs.Memories.{Memories}
+use Rattle.memories.specs.declared.Change.{Change}
+use Rattle.memories.specs.declared.Change.the-variants.{Nothing, Write, EraseAll, EraseSectors, ProtectOnly, Release, Lock, Unlock}
+use Rattle.command.specs.Decision.{if_gives_else_, answer}
+use Rattle.command.specs.declared.Decision.{Decision}
+use Rattle.command.specs.declared.Next.the-variants.{Stay}
+use Rattle.command.specs.declared.Reply.{Reply}
+use Rattle.command.specs.declared.Reply.the-variants.{Silence, Ack, AckAck, Nack, AckNack, Commands, Version, DeviceId, Data, Crc}
+use Rattle.can.specs.Frames.{classic, headBytes}
+use Rattle.boot.specs.Session.{fresh}
+use Rattle.boot.specs.Causes.{accepts}
+use Rattle.boot.specs.Calls.{State, Input, Power, Byte, Framed, Outcome, causeFor, decide, call, outcomes, run}
+use Rattle.boot.specs.declared.Cause.{Cause}
+use Rattle.boot.specs.declared.Session.{Session}
+
+-- a board freshly powered
+abbrev pub powered : Memories → State
+powered m = record { session = fresh; memories = m }
+
+-- what comes of an input is decided; a refused one does nothing
+unfoldable pub done : Input → State → Decision
+done i p = if accepts (causeFor i p) gives decide i (p .session) (p .memories .usd) else answer Silence Stay
+
+-- ---- an obeyed Access Unprotect
+
+abbrev pub unlocks : Change → Bool
+unlocks Nothing = false
+unlocks (Write r at x) = false
+unlocks EraseAll = false
+unlocks (EraseSectors x) = false
+unlocks (ProtectOnly x) = false
+unlocks Release = false
+unlocks Lock = false
+unlocks Unlock = true
+
+-- an input is an Access Unprotect, and is obeyed
+unfoldable pub opens : Input → State → Bool
+opens i p = unlocks (done i p .change)
+
+-- no input of a run is
+unfoldable pub shut : List Input → State → Bool
+shut [] p = true
+shut (i ∷ is) p = not (opens i p) && shut is (call i p .state)
+
+-- ---- what is seen of a board
+
+-- where the four value bytes of a Firmware CRC answer stand: behind the ACK, which on CAN is a frame, and the frame's head
+abbrev pub valueAt : Input → ℕ
+valueAt Power = 0
+valueAt (Byte room b) = 1
+valueAt (Framed room l) = headBytes + classic .largest + headBytes
+
+-- a reply in which the four value bytes of a Firmware CRC answer are struck out, and nothing else
+abbrev pub veiled : Input → Reply → List ℕ → List ℕ
+veiled i Silence l = l
+veiled i Ack l = l
+veiled i AckAck l = l
+veiled i (Nack w) l = l
+veiled i (AckNack w) l = l
+veiled i Commands l = l
+veiled i Version l = l
+veiled i DeviceId l = l
+veiled i (Data r at x) l = l
+veiled i (Crc at n) l = put l (valueAt i) (replicate 4 0)
+
+-- all that a call gives back and leaves, but for flash, SRAM and a CRC value
+pub record Seen : Type 0 where
+  pub cause : Cause
+  pub reply : List ℕ
+  pub session : Session
+  pub usd : List ℕ
+
+unfoldable pub seen : Input → State → Seen
+seen i p = record {
+  cause = call i p .cause;
+  reply = veiled i (done i p .reply) (call i p .reply);
+  session = call i p .state .session;
+  usd = call i p .state .memories .usd;
+}
+
+-- call by call over a run
+unfoldable pub seenOf : List Input → State → List Seen
+seenOf [] p = []
+seenOf (i ∷ is) p = seen i p ∷ seenOf is (call i p .state)
+
+-- ---- what demand 3 says of two boards
+
+-- over a run nothing that is seen differs, and no memory changes
+pub record Alike (is : List Input) (p q : State) : Type 0 where
+  pub seen : seenOf is p ≡ seenOf is q
+  pub first : run is p .memories ≡ p .memories
+  pub second : run is q .memories ≡ q .memories
+
+pub record Secret (p q : State) : Type 0 where
+  -- up to the first obeyed Access Unprotect
+  pub before : (is : List Input) → T (shut is p) → Alike is p q
+  -- which is the same input for both
+  pub opening : (is : List Input) (i : Input) → T (shut is p) → opens i (run is p) ≡ opens i (run is q)
+  -- and from it on every outcome is the same, memories and CRC values too
+  pub after : (is : List Input) (i : Input) (js : List Input) → T (shut is p) → T (opens i (run is p))
+      → outcomes (i ∷ js) (run is p) ≡ outcomes (i ∷ js) (run is q)
