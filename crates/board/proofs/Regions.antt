@@ -1,7 +1,7 @@
 -- What a place says: its bytes lie in the region, from the offset on.
 use mathlib.Core.Path.{_≡_, refl, subst}
-use mathlib.Core.Bool.{Bool, true, false, _&&_}
-use Prim.Native.Nat.{ℕ, _+_, _-_, _≤_}
+use mathlib.Core.Bool.{Bool, true, false}
+use Prim.Native.Nat.{ℕ, _+_, _≤_}
 use lib.Dec.{T, leb, leb→le}
 use Rattle.words.specs.Choice.{if_then_else_}
 use Rattle.words.proofs.Tests.{both-left, both-right}
@@ -9,7 +9,6 @@ use Rattle.board.specs.Board.{flash, sram, usd, extentOf}
 use Rattle.board.specs.Quantities.{offsetIn}
 use Rattle.board.specs.Regions.{holds, placeOf}
 use Rattle.board.specs.declared.Address.{Address}
-use Rattle.board.specs.declared.Extent.{Extent}
 use Rattle.board.specs.declared.Place.{Place}
 use Rattle.board.specs.declared.Place.the-variants.{In, Nowhere}
 use Rattle.board.specs.declared.Region.{Region}

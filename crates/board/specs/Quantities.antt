@@ -1,7 +1,7 @@
 -- A sector number, a byte address and a count sent as one less: separate quantities, each converted here and nowhere else.
 use Prim.Native.Nat.{ℕ, _+_, _-_, _*_, _/_}
 use mathlib.Core.Bool.{Bool}
-use mathlib.Core.List.{List, [], _∷_, map}
+use mathlib.Core.List.{List, map}
 use lib.Dec.{eqb, ltb}
 use Rattle.words.specs.Lists.{any, countFrom, pairs}
 use Rattle.board.specs.Board.{sectors}

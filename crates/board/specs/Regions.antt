@@ -4,13 +4,12 @@ use mathlib.Core.Bool.{Bool, true, false, _&&_}
 use mathlib.Core.List.{List}
 use lib.Dec.{eqb, leb}
 use Rattle.words.specs.Choice.{if_then_else_}
-use Rattle.board.specs.Board.{flash, sram, usd, extentOf, sectors}
+use Rattle.board.specs.Board.{flash, sram, usd, sectors}
 use Rattle.board.specs.Quantities.{offsetIn, sectorAt, sectorsFrom}
 use Rattle.board.specs.declared.Address.{Address}
 use Rattle.board.specs.declared.Extent.{Extent}
 use Rattle.board.specs.declared.Place.{Place}
 use Rattle.board.specs.declared.Place.the-variants.{In, Nowhere}
-use Rattle.board.specs.declared.Region.{Region}
 use Rattle.board.specs.declared.Region.the-variants.{Flash, Sram, Usd}
 use Rattle.board.specs.declared.Sector.{Sector}
 

@@ -1,6 +1,6 @@
 -- The three calls as one function from input and state to outcome, and runs of inputs.
 use Prim.Native.Nat.{ℕ}
-use mathlib.Core.Bool.{Bool, true}
+use mathlib.Core.Bool.{true}
 use mathlib.Core.List.{List, [], _∷_}
 use lib.Dec.{leb}
 use Rattle.words.specs.Choice.{if_then_else_}
@@ -17,7 +17,7 @@ use Rattle.uart.specs.Conversation as UC
 use Rattle.can.specs.Steps as C
 use Rattle.can.specs.Conversation as CC
 use Rattle.can.specs.Frames.{classic, frameIn, carried, isFrame, framed}
-use Rattle.boot.specs.Session.{on, progress, after}
+use Rattle.boot.specs.Session.{fresh, on, progress, after}
 use Rattle.boot.specs.Decide.{decideByte, decideFrame}
 use Rattle.boot.specs.Causes.{causeOf, accepts, uartRoom, canRoom}
 use Rattle.boot.specs.declared.Carrier.{Carrier}
@@ -30,6 +30,10 @@ use Rattle.boot.specs.declared.Session.{Session}
 pub record State : Type 0 where
   pub session : Session
   pub memories : Memories
+
+-- a board freshly powered, with these memories
+abbrev pub powered : Memories → State
+powered m = record { session = fresh; memories = m }
 
 -- an input: power on; a UART byte; a CAN frame's slice; the last two with the room lent for the reply
 pub data Input : Type 0 where

@@ -11,7 +11,6 @@ use Rattle.board.specs.declared.Region.the-variants.{Flash}
 use Rattle.memories.specs.Memories.{freshUsd}
 use Rattle.memories.specs.declared.Change.the-variants.{Write, EraseAll, EraseSectors, ProtectOnly}
 use Rattle.command.specs.Decision.{if_gives_else_, answer, alter, nack, judged}
-use Rattle.command.specs.Progress.{Progress}
 use Rattle.command.specs.Rules as Q
 use Rattle.command.specs.declared.Decision.{Decision}
 use Rattle.command.specs.declared.Next.the-variants.{Reset, Gather, GoIdle, SetSpeed, Enter, EnterAt}

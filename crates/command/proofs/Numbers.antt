@@ -8,7 +8,7 @@ use Rattle.command.specs.Commands.{code, uartCommands, canCommands, look
 use Rattle.command.specs.Says.{versionBytes, deviceBytes}
 use Rattle.command.specs.Why.{reason}
 use Rattle.command.specs.declared.Command.{Command}
-use Rattle.command.specs.declared.Command.the-variants.{GetCommands, GetVersion, GetDeviceId, ReadMemory, Jump, WriteMemory, Erase, ProgramProtect, ProgramUnprotect, AccessProtect, AccessUnprotect, FirmwareCrc, ResetDevice, Speed}
+use Rattle.command.specs.declared.Command.the-variants.{Speed}
 use Rattle.command.specs.declared.Lookup.the-variants.{Known, Unknown}
 use Rattle.command.specs.declared.Why.{Why}
 use Rattle.command.specs.declared.Why.the-variants.{BadComplement, UnknownCommand, AccessProtected, OtherFrame, BadChecksum, BadAddress, BadRange, BadSector, WriteProtected, UnsupportedErase, BadSpeed}

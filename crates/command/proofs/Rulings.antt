@@ -11,11 +11,11 @@ use Rattle.board.specs.declared.Region.the-variants.{Flash, Sram, Usd}
 use Rattle.memories.specs.Memories.{freshUsd}
 use Rattle.memories.specs.declared.Change.the-variants.{Write, EraseAll, EraseSectors, ProtectOnly}
 use Rattle.command.specs.Decision.{if_gives_else_, answer, alter, nack, judged}
-use Rattle.command.specs.Rules.{unlessProtected, readAt, reading, writeVerdictAt, writeVerdict, writeAt, writing, selectorOf, eraseVerdict, erasing, eraseAllVerdict, protectVerdict, protecting, resetting, jumping, sumAt, summing}
+use Rattle.command.specs.Rules.{unlessProtected, readAt, reading, writeVerdictAt, writeVerdict, writeAt, writing, eraseVerdict, erasing, eraseAllVerdict, protectVerdict, protecting, resetting, jumping, sumAt, summing}
 use Rattle.command.specs.declared.Command.the-variants.{ReadMemory, FirmwareCrc}
 use Rattle.command.specs.declared.Decision.{Decision}
 use Rattle.command.specs.declared.Next.the-variants.{Reset, GoIdle, Run}
-use Rattle.command.specs.declared.Reply.the-variants.{Ack, AckAck, Data, Crc}
+use Rattle.command.specs.declared.Reply.the-variants.{Ack, Data, Crc}
 use Rattle.command.specs.declared.Why.the-variants.{AccessProtected, BadAddress, BadRange, BadSector, WriteProtected, UnsupportedErase}
 
 -- with sector 1 write-protected; with protection on

@@ -1,6 +1,6 @@
 -- The rules of the commands, said once for both carriers: document 01, "Effects shared by both carriers".
-use Prim.Native.Nat.{ℕ, _+_, _*_}
-use mathlib.Core.Bool.{Bool, true, false, not, _&&_, _||_}
+use Prim.Native.Nat.{ℕ, _*_}
+use mathlib.Core.Bool.{not, _&&_, _||_}
 use mathlib.Core.List.{List}
 use lib.ListN.{take}
 use lib.Dec.{eqb, leb}
@@ -16,8 +16,7 @@ use Rattle.board.specs.declared.Place.the-variants.{In, Nowhere}
 use Rattle.board.specs.declared.Region.{Region}
 use Rattle.board.specs.declared.Region.the-variants.{Flash, Sram, Usd}
 use Rattle.board.specs.declared.Sector.{Sector}
-use Rattle.memories.specs.declared.Change.{Change}
-use Rattle.memories.specs.declared.Change.the-variants.{Write, EraseAll, EraseSectors, ProtectOnly, Release, Lock, Unlock}
+use Rattle.memories.specs.declared.Change.the-variants.{Write, EraseSectors, ProtectOnly, Release, Lock, Unlock}
 use Rattle.command.specs.Commands.{protected}
 use Rattle.command.specs.Decision.{if_gives_else_, answer, alter, nack, judged}
 use Rattle.command.specs.declared.Command.{Command}
@@ -25,7 +24,7 @@ use Rattle.command.specs.declared.Decision.{Decision}
 use Rattle.command.specs.declared.Next.{Next}
 use Rattle.command.specs.declared.Next.the-variants.{Reset, GoIdle, Run}
 use Rattle.command.specs.declared.Reply.{Reply}
-use Rattle.command.specs.declared.Reply.the-variants.{Ack, AckAck, Commands, Version, DeviceId, Data, Crc}
+use Rattle.command.specs.declared.Reply.the-variants.{Ack, AckAck, Data, Crc}
 use Rattle.command.specs.declared.Selector.{Selector}
 use Rattle.command.specs.declared.Selector.the-variants.{Listed, Special, Impossible}
 use Rattle.command.specs.declared.Verdict.{Verdict}

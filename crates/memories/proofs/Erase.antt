@@ -1,12 +1,12 @@
 -- Erase, byte by byte: a byte is 0xFF where its sector is named, and else what it was.
-use mathlib.Core.Path.{_≡_, refl, sym, ap, _∙_}
+use mathlib.Core.Path.{_≡_, refl, ap, _∙_}
 use mathlib.Core.Bool.{Bool, true, false, _&&_, _||_}
 use mathlib.Core.List.{List, [], _∷_}
 use Prim.Native.Nat.{ℕ, _+_, _*_, _-_, _/_, _≤_, _<_}
 use native.Mathlib.Omega.{arith}
 use lib.Dec.{eqb, leb, ltb}
-use lib.ListN.{length, getD, replicate, length-replicate, getD-replicate}
-use borrow.Author.Tests.{eqb-true, eqb-false, le-leb, lt-ltb, lt-leb, le-ltb, leb-true, leb-false}
+use lib.ListN.{length, getD, length-replicate, getD-replicate}
+use borrow.Author.Tests.{eqb-true, eqb-false, le-leb, lt-ltb, le-ltb, leb-true}
 use Rattle.words.specs.Choice.{if_then_else_}
 use Rattle.words.specs.Over.{newer, put, within}
 use Rattle.words.proofs.Over.{over-at, length-over}

@@ -1,6 +1,5 @@
 -- Memories of their proper sizes have each region's length.
 use mathlib.Core.Path.{_≡_}
-use Prim.Native.Nat.{ℕ}
 use mathlib.Core.Bool.{_&&_}
 use lib.Dec.{T, eqb→eq}
 use lib.ListN.{length}

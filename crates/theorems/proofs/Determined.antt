@@ -1,6 +1,6 @@
 -- Each part that a promise names is fixed by it, and the parts are all that a call gives back and leaves.
 use mathlib.Core.Path.{_≡_, sym, _∙_}
-use Rattle.boot.specs.Promise.{PoweredOn, Given, Left, givenByte, givenFrame, Took}
+use Rattle.boot.specs.Promise.{Given, Left, givenByte, givenFrame, Took}
 use Rattle.theorems.specs.Determined.{Determined}
 
 took-once : (g : Given) (l k : Left) → Took g l → Took g k → l ≡ k

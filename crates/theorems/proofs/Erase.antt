@@ -19,7 +19,7 @@ use Rattle.command.specs.declared.Next.the-variants.{Stay, Reset, Gather, GoIdl
 use Rattle.command.specs.declared.Reply.the-variants.{Silence}
 use Rattle.boot.specs.Session.{idle, after, progress}
 use Rattle.boot.specs.Causes.{accepts}
-use Rattle.boot.specs.Calls.{State, Input, Outcome, carrierOf, brings, causeFor, decide, perform, refused, call, run}
+use Rattle.boot.specs.Calls.{State, Input, carrierOf, brings, causeFor, decide, perform, refused, call, run}
 use Rattle.boot.specs.declared.Carrier.{Carrier}
 use Rattle.boot.specs.declared.Carrier.the-variants.{None, Uart, Can, Running}
 use Rattle.boot.specs.declared.Cause.{Cause}

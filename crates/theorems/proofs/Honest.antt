@@ -1,5 +1,4 @@
 -- No decision changes a memory unless it also accepts and ends the command.
-use mathlib.Core.Path.{_≡_, refl}
 use mathlib.Core.Bool.{Bool, true, false, not, _&&_, _||_}
 use mathlib.Core.List.{List}
 use Prim.Native.Nat.{ℕ}
@@ -10,9 +9,9 @@ use Rattle.board.specs.declared.Place.the-variants.{In, Nowhere}
 use Rattle.board.specs.declared.Region.the-variants.{Flash, Sram, Usd}
 use Rattle.memories.specs.declared.Change.{Change}
 use Rattle.memories.specs.declared.Change.the-variants.{Nothing, Write, EraseAll, EraseSectors, ProtectOnly, Release, Lock, Unlock}
-use Rattle.command.specs.Decision.{if_gives_else_, answer, nack, judged}
+use Rattle.command.specs.Decision.{if_gives_else_, answer, nack}
 use Rattle.command.specs.Progress.{Progress}
-use Rattle.command.specs.Rules.{unlessProtected, readAt, reading, writeAt, writing, erasing, protecting, jumping, sumAt, summing}
+use Rattle.command.specs.Rules.{readAt, reading, writeAt, writing, erasing, protecting, jumping, sumAt, summing}
 use Rattle.command.specs.declared.Command.{Command}
 use Rattle.command.specs.declared.Command.the-variants.{GetCommands, GetVersion, GetDeviceId, ReadMemory, Jump, WriteMemory, Erase, ProgramProtect, ProgramUnprotect, AccessProtect, AccessUnprotect, FirmwareCrc, ResetDevice, Speed}
 use Rattle.command.specs.declared.Decision.{Decision}
@@ -25,14 +24,12 @@ use Rattle.command.specs.declared.Selector.the-variants.{Listed, Special, Impos
 use Rattle.command.specs.declared.Verdict.{Verdict}
 use Rattle.command.specs.declared.Verdict.the-variants.{Fine, No}
 use Rattle.command.specs.declared.Why.{Why}
-use Rattle.uart.specs.Steps as U
 use Rattle.uart.specs.Conversation as UC
 use Rattle.uart.specs.declared.Step as US
-use Rattle.can.specs.Steps as C
 use Rattle.can.specs.Conversation as CC
 use Rattle.can.specs.Frames.{Frame, frameIn}
 use Rattle.can.specs.declared.Step as CS
-use Rattle.boot.specs.Session.{on, progress}
+use Rattle.boot.specs.Session.{progress}
 use Rattle.boot.specs.Decide.{connected, decideByte, decideFrame}
 use Rattle.boot.specs.Calls.{Input, Power, Byte, Framed, decide}
 use Rattle.boot.specs.declared.Carrier.{Carrier}

@@ -1,13 +1,13 @@
 -- What it says of a session that it is in a step of a carrier: it is on no other carrier, and its step is that one.
-use mathlib.Core.Path.{_≡_, refl, ap, sym, _∙_}
+use mathlib.Core.Path.{_≡_, sym, _∙_}
 use mathlib.Core.Bool.{Bool, true, false, not, _&&_, _||_}
 use Prim.Native.Nat.{ℕ}
 use native.Mathlib.Omega.{arith}
 use lib.Dec.{T, eqb, eqb→eq}
 use Rattle.words.specs.Choice.{if_then_else_}
-use Rattle.words.proofs.Tests.{both-left, both-right}
+use Rattle.words.proofs.Tests.{both-left}
 use Rattle.memories.specs.Memories.{proper}
-use Rattle.command.specs.Decision.{if_gives_else_, answer}
+use Rattle.command.specs.Decision.{answer}
 use Rattle.command.specs.declared.Decision.{Decision}
 use Rattle.command.specs.declared.Next.the-variants.{Stay, GoIdle}
 use Rattle.command.specs.declared.Reply.the-variants.{Silence, Ack}
@@ -20,7 +20,7 @@ use Rattle.boot.specs.declared.Carrier.the-variants.{None, Uart, Can}
 use Rattle.boot.specs.declared.Cause.{Cause}
 use Rattle.boot.specs.declared.Cause.the-variants.{WrongMemory}
 use Rattle.boot.specs.declared.Session.{Session}
-use Rattle.theorems.proofs.Holds.{Holds, split, either}
+use Rattle.theorems.proofs.Holds.{Holds, split}
 
 -- a session is on one carrier
 pub one-carrier : (c k : Carrier) (s : Session) → (carrierNo c ≡ carrierNo k → ⊥) → T (on c s) → T (on k s) → ⊥

@@ -1,6 +1,5 @@
 -- Under protection no decision reads or changes a memory, save by Access Unprotect, and none enters a step of a protected command:
 -- a protected command is refused at once, so the session is only ever idle or inside Firmware CRC.
-use mathlib.Core.Path.{_≡_, refl}
 use mathlib.Core.Bool.{Bool, true, false, not, _&&_}
 use mathlib.Core.List.{List}
 use Prim.Native.Nat.{ℕ}
@@ -8,17 +7,16 @@ use lib.Dec.{T, eqb}
 use Rattle.words.specs.Choice.{if_then_else_}
 use Rattle.words.proofs.Tests.{both-left, both-right}
 use Rattle.board.specs.Usd.{protectionOn}
-use Rattle.board.specs.Regions.{placeOf}
 use Rattle.board.specs.declared.Address.{Address}
 use Rattle.board.specs.declared.Place.{Place}
 use Rattle.board.specs.declared.Place.the-variants.{In, Nowhere}
 use Rattle.board.specs.declared.Region.the-variants.{Flash, Sram, Usd}
 use Rattle.memories.specs.declared.Change.{Change}
 use Rattle.memories.specs.declared.Change.the-variants.{Nothing, Write, EraseAll, EraseSectors, ProtectOnly, Release, Lock, Unlock}
-use Rattle.command.specs.Commands.{protected, lookUp}
-use Rattle.command.specs.Decision.{if_gives_else_, answer, nack, judged}
+use Rattle.command.specs.Commands.{protected}
+use Rattle.command.specs.Decision.{answer, nack}
 use Rattle.command.specs.Progress.{Progress}
-use Rattle.command.specs.Rules.{unlessProtected, unlocking, sumAt, summing}
+use Rattle.command.specs.Rules.{unlocking, sumAt, summing}
 use Rattle.command.specs.declared.Command.{Command}
 use Rattle.command.specs.declared.Command.the-variants.{GetCommands, GetVersion, GetDeviceId, ReadMemory, Jump, WriteMemory, Erase, ProgramProtect, ProgramUnprotect, AccessProtect, AccessUnprotect, FirmwareCrc, ResetDevice, Speed}
 use Rattle.command.specs.declared.Decision.{Decision}
@@ -38,7 +36,7 @@ use Rattle.can.specs.Frames.{Frame, frameIn}
 use Rattle.can.specs.declared.Step as CS
 use Rattle.boot.specs.Session.{on, carrierNo, progress, after}
 use Rattle.boot.specs.Decide.{connected, decideByte, decideFrame}
-use Rattle.boot.specs.Calls.{Input, Power, Byte, Framed, carrierOf, brings, decide}
+use Rattle.boot.specs.Calls.{Input, Power, Byte, Framed, carrierOf, decide}
 use Rattle.boot.specs.declared.Carrier.{Carrier}
 use Rattle.boot.specs.declared.Carrier.the-variants.{None, Uart, Can, Running}
 use Rattle.boot.specs.declared.Session.{Session}

@@ -1,11 +1,11 @@
 -- The club's failure (d): an accepted list of 0x63 has only sector numbers, and exactly those sectors are then write-protected.
-use mathlib.Core.Path.{_≡_, refl, sym, ap, _∙_}
-use mathlib.Core.Bool.{Bool, true, false, not, _&&_, _||_, or-comm}
+use mathlib.Core.Path.{_≡_, refl, ap, _∙_}
+use mathlib.Core.Bool.{Bool, true, false, not, or-comm}
 use mathlib.Core.List.{List, [], _∷_}
-use Prim.Native.Nat.{ℕ, _<_}
+use Prim.Native.Nat.{ℕ}
 use native.Mathlib.Omega.{arith}
 use lib.Dec.{T, T-not, not-T, ltb→lt}
-use lib.ListN.{length, take}
+use lib.ListN.{take}
 use Rattle.words.specs.Choice.{if_then_else_}
 use Rattle.words.specs.Lists.{all}
 use Rattle.words.proofs.Tests.{holds-true, fails-false}
@@ -13,20 +13,19 @@ use Rattle.board.specs.Quantities.{isSector, named, indexed}
 use Rattle.board.specs.Usd.{writeProtected}
 use Rattle.board.specs.declared.Region.the-variants.{Usd}
 use Rattle.board.specs.declared.Sector.{Sector}
-use Rattle.memories.specs.Memories.{Memories, proper}
+use Rattle.memories.specs.Memories.{proper}
 use Rattle.memories.specs.Effects.{effect}
 use Rattle.memories.specs.declared.Change.{Change}
 use Rattle.memories.specs.declared.Change.the-variants.{ProtectOnly}
 use Rattle.memories.proofs.Memories.{proper-length}
 use Rattle.memories.proofs.Protect.{only-named}
-use Rattle.command.specs.Decision.{if_gives_else_, answer, alter, nack, judged}
+use Rattle.command.specs.Decision.{if_gives_else_, answer, alter, judged}
 use Rattle.command.specs.Progress.{Progress, stagedWith}
 use Rattle.command.specs.Rules.{protectVerdict, protecting}
 use Rattle.command.specs.declared.Decision.{Decision}
-use Rattle.command.specs.declared.Next.the-variants.{Stay, Reset, GoIdle}
+use Rattle.command.specs.declared.Next.the-variants.{Stay, Reset}
 use Rattle.command.specs.declared.Reply.the-variants.{Silence, Ack}
 use Rattle.command.specs.declared.Verdict.the-variants.{Fine, No}
-use Rattle.command.specs.declared.Why.{Why}
 use Rattle.command.specs.declared.Why.the-variants.{BadSector}
 use Rattle.uart.specs.Steps as U
 use Rattle.uart.specs.Conversation as UC
@@ -38,11 +37,11 @@ use Rattle.boot.specs.Session.{on, progress}
 use Rattle.boot.specs.Decide.{decideByte, decideFrame}
 use Rattle.boot.specs.Causes.{accepts}
 use Rattle.boot.specs.Calls.{State, Input, Power, Byte, Framed, brings, causeFor, decide, perform, refused, call}
-use Rattle.boot.specs.declared.Carrier.the-variants.{None, Uart, Can}
+use Rattle.boot.specs.declared.Carrier.the-variants.{Uart, Can}
 use Rattle.boot.specs.declared.Session.{Session}
 use Rattle.theorems.specs.Failures.{inProtect, protectCount, indexes, acks, ExactlyNamed}
 use Rattle.theorems.specs.Secrecy.{done}
-use Rattle.theorems.proofs.Holds.{Holds, either, judged-either}
+use Rattle.theorems.proofs.Holds.{Holds, either}
 use Rattle.theorems.proofs.InStep.{one-carrier, step-on, not-unconnected, connected-holds, accepted-proper}
 
 -- ---- what the list step decides

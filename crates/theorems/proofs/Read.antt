@@ -1,18 +1,12 @@
 -- The club's failure (c): a locked board reads nothing, since each of its decisions is discreet and the board stays locked and calm.
-use mathlib.Core.Bool.{Bool, true, false, not}
 use mathlib.Core.List.{List}
 use mathlib.Core.Path.{refl}
 use lib.Dec.{T}
 use Rattle.board.specs.Usd.{protectionOn}
 use Rattle.memories.specs.Memories.{Memories, proper}
-use Rattle.command.specs.Decision.{if_gives_else_, answer}
-use Rattle.command.specs.declared.Decision.{Decision}
-use Rattle.command.specs.declared.Next.the-variants.{Stay}
-use Rattle.command.specs.declared.Reply.the-variants.{Silence}
-use Rattle.boot.specs.Causes.{accepts}
-use Rattle.boot.specs.Calls.{State, Input, causeFor, decide, run}
+use Rattle.boot.specs.Calls.{Input, powered, run}
 use Rattle.theorems.specs.Failures.{reads, NeverRead}
-use Rattle.theorems.specs.Secrecy.{powered, done, shut}
+use Rattle.theorems.specs.Secrecy.{done, shut}
 use Rattle.theorems.proofs.Secrecy.{Twins, twins-fresh, twins-after, shows-nothing, quiet-done}
 
 pub never-read : (m : Memories) → T (proper m) → T (protectionOn (m .usd)) → NeverRead (powered m)

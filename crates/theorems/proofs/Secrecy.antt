@@ -1,6 +1,6 @@
 -- Demand 3: what is decided sees neither flash nor SRAM; under protection what is done shows and changes nothing of them; a wipe makes two boards one.
 use mathlib.Core.Path.{_≡_, refl, sym, ap, ap₂, _∙_, subst}
-use mathlib.Core.Bool.{Bool, true, false, not, _&&_}
+use mathlib.Core.Bool.{Bool, true, false, not}
 use mathlib.Core.List.{List, [], _∷_}
 use Prim.Native.Nat.{ℕ}
 use lib.Dec.{T, leb}
@@ -19,14 +19,14 @@ use Rattle.command.specs.declared.Next.the-variants.{Stay}
 use Rattle.command.specs.declared.Reply.{Reply}
 use Rattle.command.specs.declared.Reply.the-variants.{Silence, Ack, AckAck, Nack, AckNack, Commands, Version, DeviceId, Data, Crc}
 use Rattle.can.specs.Frames.{classic, isFrame}
-use Rattle.boot.specs.Session.{after, progress, fresh}
+use Rattle.boot.specs.Session.{after, progress}
 use Rattle.boot.specs.Causes.{causeOf, accepts, uartRoom, canRoom}
-use Rattle.boot.specs.Calls.{State, Input, Power, Byte, Framed, Outcome, carrierOf, brings, commandsOf, causeFor, decide, sent, perform, refused, call, outcomes, run}
+use Rattle.boot.specs.Calls.{State, powered, Input, Power, Byte, Framed, Outcome, carrierOf, brings, commandsOf, causeFor, decide, sent, perform, refused, call, outcomes, run}
 use Rattle.boot.specs.declared.Cause.{Cause}
 use Rattle.boot.specs.declared.Cause.the-variants.{Accepted}
 use Rattle.boot.specs.declared.Session.{Session}
 use Rattle.theorems.specs.Failures.{reads}
-use Rattle.theorems.specs.Secrecy.{powered, done, unlocks, opens, shut, veiled, Seen, seen, seenOf, Alike, Secret}
+use Rattle.theorems.specs.Secrecy.{done, unlocks, opens, shut, veiled, Seen, seen, seenOf, Alike, Secret}
 use Rattle.theorems.proofs.Locked.{calm, fixed, harmless, Discreet, decide-discreet, after-calm}
 
 -- ---- what a discreet act shows of the memories, and does to them

@@ -1,16 +1,16 @@
 -- The club's failure (a): the data step of a write decides on nothing but a write of its own X bytes at its own address,
 -- and such a write changes no byte outside them.
-use mathlib.Core.Path.{_≡_, refl, sym, ap, _∙_, subst}
-use mathlib.Core.Bool.{Bool, true, false, not, _&&_, _||_, or-comm}
-use mathlib.Core.List.{List, [], _∷_}
+use mathlib.Core.Path.{_≡_, refl, sym, _∙_, subst}
+use mathlib.Core.Bool.{Bool, true, false, not, or-comm}
+use mathlib.Core.List.{List}
 use Prim.Native.Nat.{ℕ, _+_, _-_, _≤_, _<_}
 use native.Mathlib.Omega.{arith}
-use lib.Dec.{T, T-not, not-T, eqb, eqb→eq, leb, ltb, leb→le, ltb→lt}
+use lib.Dec.{T, T-not, not-T, leb, ltb, leb→le, ltb→lt}
 use lib.ListN.{length, getD, take, length-take}
-use borrow.Author.Tests.{leb-true, ltb-true, le-leb, lt-ltb}
+use borrow.Author.Tests.{le-leb, lt-ltb}
 use Rattle.words.specs.Choice.{if_then_else_}
 use Rattle.words.specs.Over.{within}
-use Rattle.words.proofs.Tests.{both-left, both-right, holds-true, fails-false, chosen}
+use Rattle.words.proofs.Tests.{both-left, both-right, holds-true, fails-false}
 use Rattle.board.specs.Board as B
 use Rattle.board.specs.Regions.{placeOf}
 use Rattle.board.specs.declared.Address.{Address}
@@ -19,13 +19,12 @@ use Rattle.board.specs.declared.Place.the-variants.{In, Nowhere}
 use Rattle.board.specs.declared.Region.{Region}
 use Rattle.board.specs.declared.Region.the-variants.{Flash, Sram, Usd}
 use Rattle.board.proofs.Regions.{Lies, lies}
-use Rattle.memories.specs.Memories.{Memories, bytesOf, properIn, proper}
+use Rattle.memories.specs.Memories.{Memories, bytesOf, proper}
 use Rattle.memories.specs.Effects.{written, effect}
 use Rattle.memories.specs.declared.Change.{Change}
 use Rattle.memories.specs.declared.Change.the-variants.{Nothing, Write, EraseAll, EraseSectors, ProtectOnly, Release, Lock, Unlock}
 use Rattle.memories.proofs.Memories.{proper-length}
 use Rattle.memories.proofs.Write.{written-at}
-use Rattle.command.specs.Decision.{if_gives_else_, answer, nack, judged}
 use Rattle.command.specs.Progress.{Progress, stagedWith}
 use Rattle.command.specs.Rules.{writeAt, writing}
 use Rattle.command.specs.declared.Decision.{Decision}

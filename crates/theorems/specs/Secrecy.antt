@@ -6,7 +6,6 @@ use mathlib.Core.List.{List, [], _∷_}
 use lib.ListN.{replicate}
 use lib.Dec.{T}
 use Rattle.words.specs.Over.{put}
-use Rattle.memories.specs.Memories.{Memories}
 use Rattle.memories.specs.declared.Change.{Change}
 use Rattle.memories.specs.declared.Change.the-variants.{Nothing, Write, EraseAll, EraseSectors, ProtectOnly, Release, Lock, Unlock}
 use Rattle.command.specs.Decision.{if_gives_else_, answer}
@@ -15,15 +14,10 @@ use Rattle.command.specs.declared.Next.the-variants.{Stay}
 use Rattle.command.specs.declared.Reply.{Reply}
 use Rattle.command.specs.declared.Reply.the-variants.{Silence, Ack, AckAck, Nack, AckNack, Commands, Version, DeviceId, Data, Crc}
 use Rattle.can.specs.Frames.{classic, headBytes}
-use Rattle.boot.specs.Session.{fresh}
 use Rattle.boot.specs.Causes.{accepts}
-use Rattle.boot.specs.Calls.{State, Input, Power, Byte, Framed, Outcome, causeFor, decide, call, outcomes, run}
+use Rattle.boot.specs.Calls.{State, Input, Power, Byte, Framed, causeFor, decide, call, outcomes, run}
 use Rattle.boot.specs.declared.Cause.{Cause}
 use Rattle.boot.specs.declared.Session.{Session}
-
--- a board freshly powered
-abbrev pub powered : Memories → State
-powered m = record { session = fresh; memories = m }
 
 -- what comes of an input is decided; a refused one does nothing
 unfoldable pub done : Input → State → Decision

@@ -6,46 +6,31 @@ use lib.ListN.{replicate, set}
 use Rattle.words.specs.Hex.{hex}
 use Rattle.words.specs.Lists.{join, part}
 use Rattle.board.specs.Board as B
-use Rattle.board.specs.Regions as R
-use Rattle.board.specs.Usd as U
-use Rattle.crc.specs.Crc as K
-use Rattle.memories.specs.Memories.{Memories}
-use Rattle.memories.specs.Protection as P
-use Rattle.memories.specs.Effects as E
-use Rattle.command.specs.Decision as D
-use Rattle.command.specs.Rules as Q
-use Rattle.command.specs.Says as S
-use Rattle.uart.specs.Conversation as UC
-use Rattle.can.specs.Conversation as CC
-use Rattle.boot.specs.Session as BS
-use Rattle.boot.specs.Decide as BD
+use Rattle.board.specs.declared.Region.the-variants.{Usd}
+use Rattle.memories.specs.Memories.{Memories, withBytes, freshUsd, freshMemories}
 use Rattle.boot.specs.Causes as BC
-use Rattle.boot.specs.Calls.{State, Input, Power, Byte, Framed, Outcome, causeFor, decide, sent, perform, call, outcomes, run}
+use Rattle.boot.specs.Calls.{State, powered, Input, Byte, Framed, Outcome, outcomes, run}
 
 -- ---- boards
 
--- a board just powered, with these memories
-abbrev pub powered : List ℕ → List ℕ → List ℕ → State
-powered flash sram usd = record { session = BS.fresh; memories = record { flash = flash; sram = sram; usd = usd } }
-
--- USD A5 then all FF
-abbrev pub freshUsd : List ℕ
-freshUsd = 0xA5 ∷ replicate 63 0xFF
-
--- a board with flash FF and SRAM 00
-abbrev pub boardWith : List ℕ → State
-boardWith usd = powered (replicate (B.flash .bytes) 0xFF) (replicate (B.sram .bytes) 0) usd
-
--- the fresh board; the same with sector 1 protected
+-- the fresh board, and the same with other user system data
 abbrev pub freshBoard : State
-freshBoard = boardWith freshUsd
+freshBoard = powered freshMemories
 
+abbrev pub boardWith : List ℕ → State
+boardWith usd = powered (withBytes Usd usd freshMemories)
+
+-- with sector 1 write-protected
 abbrev pub sectorOneProtected : State
 sectorOneProtected = boardWith (set freshUsd 8 0xFD)
 
 -- a locked board whose flash and SRAM are not blank, so that a wipe is seen
 abbrev pub lockedBoard : State
-lockedBoard = powered (replicate (B.flash .bytes) 0x5A) (replicate (B.sram .bytes) 0xC3) (replicate 64 0xFF)
+lockedBoard = powered (record {
+  flash = replicate (B.flash .bytes) 0x5A;
+  sram = replicate (B.sram .bytes) 0xC3;
+  usd = replicate (B.usd .bytes) 0xFF;
+})
 
 -- ---- what is sent
 

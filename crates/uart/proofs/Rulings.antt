@@ -12,14 +12,14 @@ use Rattle.memories.specs.declared.Change.the-variants.{Write, EraseAll, EraseS
 use Rattle.command.specs.Decision.{if_gives_else_, answer, alter, nack, judged}
 use Rattle.command.specs.Rules as Q
 use Rattle.command.specs.declared.Decision.{Decision}
-use Rattle.command.specs.declared.Next.the-variants.{Reset, Gather, GoIdle, Enter, EnterAt, Run}
-use Rattle.command.specs.declared.Reply.the-variants.{Silence, Ack, AckAck, Commands, Data, Crc}
+use Rattle.command.specs.declared.Next.the-variants.{Reset, GoIdle, Enter, EnterAt, Run}
+use Rattle.command.specs.declared.Reply.the-variants.{Silence, Ack, AckAck, Data, Crc}
 use Rattle.command.specs.declared.Why.the-variants.{BadComplement, UnknownCommand, AccessProtected, BadChecksum, BadAddress, BadRange, UnsupportedErase}
 use Rattle.command.proofs.Rulings.{Ruling, _is_, decisions, papers, lockedUsd}
 use Rattle.uart.specs.Conversation as C
 use Rattle.uart.specs.Steps.{stepNo}
 use Rattle.uart.specs.declared.Step.{Step}
-use Rattle.uart.specs.declared.Step.the-variants.{Idle, ReadAddress, JumpAddress, WriteAddress, CrcAddress, ReadLength, WriteLength, WriteData, EraseSelector, SpecialCheck, EraseList, ProtectLength, ProtectList, CrcCount}
+use Rattle.uart.specs.declared.Step.the-variants.{Idle, ReadAddress, JumpAddress, CrcAddress, ReadLength, WriteLength, WriteData, EraseSelector, SpecialCheck, EraseList, ProtectList, CrcCount}
 
 -- n, version and list, as 00 FF is answered
 pub commands-told : C.commandBytes ≡ hex "0E 20 00 01 02 11 21 31 44 63 73 82 92 AC D4"

@@ -1,10 +1,8 @@
 -- Laws of tests: what a test that holds says of its parts.
 use mathlib.Core.Path.{_≡_, refl}
-use mathlib.Core.Bool.{Bool, true, false, not, _&&_, _||_}
-use mathlib.Core.List.{List, [], _∷_}
+use mathlib.Core.Bool.{Bool, true, false, not, _&&_}
 use lib.Dec.{T}
 use Rattle.words.specs.Choice.{if_then_else_}
-use Rattle.words.specs.Lists.{any, all}
 
 -- both parts of a test that joins two hold
 pub both-left : (a b : Bool) → T (a && b) → T a
