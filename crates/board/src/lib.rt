@@ -1,6 +1,12 @@
 ghost use mathlib.Core.Path.{_≡_};
+ghost use Prim.Native.Nat.{_+_, _≤_};
+ghost use lib.Dec.{T};
+ghost use lib.ListN.{length};
+ghost use Rattle.words.specs.Lists.{any};
 ghost use Rattle.board.specs.Board.{flash, sram, usd, extentOf, sectors, layout, identity};
-ghost use Rattle.board.specs.Quantities.{countOf, startOf, offsetIn};
+ghost use Rattle.board.specs.Quantities.{countOf, startOf, offsetIn, isSector, sectorsFrom};
+ghost use Rattle.board.specs.Regions.{holds, placeOf, known, jumpable, sectorStart};
+ghost use Rattle.board.specs.Usd.{protectionOn, writeProtected};
 
 // A sector number.
 pub struct Sector(pub u16);
@@ -164,6 +170,121 @@ impl Board {
     }
 }
 
+impl Board {
+    // Whether x bytes from an address all lie in a region.
+    fn holds(region: Region, address: Address, x: usize) -> bool
+        ensures { λ r. ⌜ r ≡ holds (extentOf region) address x ⌝ }
+    {
+        let extent = Board::extent(region);
+        let first = extent.first.0;
+        let bytes = extent.bytes;
+        let this = address.0;
+        if this < first {
+            return false;
+        }
+        if bytes < x {
+            return false;
+        }
+        (this - first) as usize <= bytes - x
+    }
+
+    // The one region in which x bytes from an address all lie, and their offset in it.
+    pub fn place(address: Address, x: usize) -> Place
+        ensures { λ r. ⌜ r ≡ placeOf address x ⌝ }
+    {
+        let in_flash = Board::holds(Region::Flash, address, x);
+        if in_flash {
+            return Place::In(Region::Flash, address.offset(Region::Flash));
+        }
+        let in_sram = Board::holds(Region::Sram, address, x);
+        if in_sram {
+            return Place::In(Region::Sram, address.offset(Region::Sram));
+        }
+        let in_usd = Board::holds(Region::Usd, address, x);
+        if in_usd {
+            return Place::In(Region::Usd, address.offset(Region::Usd));
+        }
+        Place::Nowhere
+    }
+
+    // Whether an address is in some region.
+    pub fn known(address: Address) -> bool
+        ensures { λ r. ⌜ r ≡ known address ⌝ }
+    {
+        let place = Board::place(address, 1);
+        match place {
+            Place::In(_, _) => true,
+            Place::Nowhere => false,
+        }
+    }
+
+    // Whether an address is in flash or SRAM, where a jump may go.
+    pub fn jumpable(address: Address) -> bool
+        ensures { λ r. ⌜ r ≡ jumpable address ⌝ }
+    {
+        let place = Board::place(address, 1);
+        match place {
+            Place::In(region, _) => match region {
+                Region::Flash => true,
+                Region::Sram => true,
+                Region::Usd => false,
+            },
+            Place::Nowhere => false,
+        }
+    }
+
+    // Whether an address is a sector start in flash.
+    pub fn sector_start(address: Address) -> bool
+        ensures { λ r. ⌜ r ≡ sectorStart address ⌝ }
+    {
+        let place = Board::place(address, 1);
+        match place {
+            Place::In(region, at) => match region {
+                Region::Flash => at % Board::SECTOR_BYTES == 0,
+                Region::Sram => false,
+                Region::Usd => false,
+            },
+            Place::Nowhere => false,
+        }
+    }
+
+    // Whether protection is on.
+    pub fn protection_on(usd: &[u8]) -> bool
+        requires { ⌜ length (now usd) ≡ 64 ⌝ }
+        ensures { λ r. ⌜ r ≡ protectionOn (now (usd .entry)) ⌝ }
+    {
+        usd[Board::PROTECTION] != Board::PROTECTION_OFF
+    }
+
+    // Whether a sector is write-protected.
+    pub fn write_protected(usd: &[u8], sector: Sector) -> bool
+        requires { ⌜ (length (now usd) ≡ 64) × T (isSector sector) ⌝ }
+        ensures { λ r. ⌜ r ≡ writeProtected (now (usd .entry)) sector ⌝ }
+    {
+        let k = sector.0;
+        let byte = Board::SECTOR_BITS + (k >> 3) as usize;
+        let bit = k & 7;
+        (usd[byte] >> bit) & 1 == 0
+    }
+
+    // Whether one of n sectors in order is write-protected.
+    pub fn any_write_protected(usd: &[u8], first: Sector, n: usize) -> bool
+        requires { ⌜ (length (now usd) ≡ 64) × (first .0 + n ≤ 32) ⌝ }
+        ensures { λ r. ⌜ r ≡ any (writeProtected (now (usd .entry))) (sectorsFrom first n) ⌝ }
+    {
+        let mut k = first.0;
+        let mut left = n;
+        while 0 < left {
+            if Board::write_protected(usd, Sector(k)) {
+                return true;
+            }
+            k += 1;
+            left -= 1;
+        }
+        false
+    }
+}
+
 impl LessOne {
     // The count that was sent as one less.
     pub fn count(self) -> usize
@@ -184,9 +305,10 @@ impl Sector {
 
 impl Address {
     // How far the address lies behind a region's first one, and 0 before it.
-    pub fn offset(self, extent: Extent) -> usize
-        ensures { λ r. ⌜ r ≡ offsetIn extent self ⌝ }
+    pub fn offset(self, region: Region) -> usize
+        ensures { λ r. ⌜ r ≡ offsetIn (extentOf region) self ⌝ }
     {
+        let extent = Board::extent(region);
         let first = extent.first.0;
         let this = self.0;
         if this < first {

@@ -1,5 +1,7 @@
 pub mod Memories
-pub mod Write
-pub mod Erase
-pub mod Protect
-pub mod Wipe
+pub mod Lists
+pub mod Possible
+pub mod Written
+pub mod Erased
+pub mod Protected
+pub mod Wiped

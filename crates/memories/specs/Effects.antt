@@ -1,12 +1,15 @@
 -- What each change does to the memories: document 01, "Effects shared by both carriers".
-use Prim.Native.Nat.{ℕ, _*_}
+use Prim.Native.Nat.{ℕ, _+_, _*_}
+use mathlib.Core.Bool.{Bool, true, _&&_}
 use mathlib.Core.List.{List, [], _∷_}
 use lib.ListN.{take, replicate}
+use lib.Dec.{leb}
 use lib.Bits.{bitAnd}
 use Rattle.words.specs.Choice.{if_then_else_}
+use Rattle.words.specs.Lists.{all}
 use Rattle.words.specs.Over.{over, put}
 use Rattle.board.specs.Board as B
-use Rattle.board.specs.Quantities.{startOf, indexed, numbered}
+use Rattle.board.specs.Quantities.{startOf, isSector, indexed, numbered}
 use Rattle.board.specs.Usd.{protectionOn}
 use Rattle.board.specs.declared.Region.{Region}
 use Rattle.board.specs.declared.Region.the-variants.{Flash, Sram, Usd}
@@ -57,3 +60,14 @@ effect (ProtectOnly x) staged m = withBytes Usd (onlyProtected (m .usd) (indexed
 effect Release staged m = withBytes Usd (released (m .usd)) m
 effect Lock staged m = withBytes Usd (locked (m .usd)) m
 effect Unlock staged m = if protectionOn (m .usd) then wiped m else m
+
+-- a change that can be carried out: its bytes are in their region, and its sectors are some of the board's
+abbrev pub possible : Change → List ℕ → Bool
+possible Nothing staged = true
+possible (Write r at x) staged = leb x 256 && leb (at + x) (B.extentOf r .bytes)
+possible EraseAll staged = true
+possible (EraseSectors x) staged = leb x (B.sectors .count) && all isSector (numbered (take (2 * x) staged))
+possible (ProtectOnly x) staged = leb x 256 && all isSector (indexed (take x staged))
+possible Release staged = true
+possible Lock staged = true
+possible Unlock staged = true

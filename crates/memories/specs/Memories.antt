@@ -14,6 +14,10 @@ pub record Memories : Type 0 where
   pub sram : List ℕ
   pub usd : List ℕ
 
+-- three lent memories
+abbrev pub memories : List ℕ → List ℕ → List ℕ → Memories
+memories flash sram usd = record { flash = flash; sram = sram; usd = usd }
+
 -- the bytes of a region
 abbrev pub bytesOf : Region → Memories → List ℕ
 bytesOf Flash m = m .flash

@@ -18,7 +18,7 @@ use Rattle.memories.specs.Effects.{effect}
 use Rattle.memories.specs.declared.Change.{Change}
 use Rattle.memories.specs.declared.Change.the-variants.{ProtectOnly}
 use Rattle.memories.proofs.Memories.{proper-length}
-use Rattle.memories.proofs.Protect.{only-named}
+use Rattle.memories.proofs.Protected.{only-named}
 use Rattle.command.specs.Decision.{if_gives_else_, answer, alter, judged}
 use Rattle.command.specs.Progress.{Progress, stagedWith}
 use Rattle.command.specs.Rules.{protectVerdict, protecting}

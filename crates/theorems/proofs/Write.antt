@@ -24,7 +24,7 @@ use Rattle.memories.specs.Effects.{written, effect}
 use Rattle.memories.specs.declared.Change.{Change}
 use Rattle.memories.specs.declared.Change.the-variants.{Nothing, Write, EraseAll, EraseSectors, ProtectOnly, Release, Lock, Unlock}
 use Rattle.memories.proofs.Memories.{proper-length}
-use Rattle.memories.proofs.Write.{written-at}
+use Rattle.memories.proofs.Written.{written-at}
 use Rattle.command.specs.Progress.{Progress, stagedWith}
 use Rattle.command.specs.Rules.{writeAt, writing}
 use Rattle.command.specs.declared.Decision.{Decision}

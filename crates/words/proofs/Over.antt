@@ -1,15 +1,17 @@
 -- Laws of bytes laid over a memory: its length, and what stands at each place afterwards.
-use mathlib.Core.Path.{_≡_, refl, ap}
+use mathlib.Core.Path.{_≡_, refl, ap, sym}
 use mathlib.Core.Bool.{Bool, true, false, _&&_}
-use mathlib.Core.List.{List, [], _∷_}
+use mathlib.Core.List.{List, [], _∷_, _++_}
 use Prim.Native.Nat.{ℕ, zero, suc, _+_, _-_, _≤_, _<_}
 use native.Mathlib.Nat.{le-of-suc-le-suc, not-suc-le-zero, zero-add, suc-add}
+use native.Mathlib.Numerals.{add-one}
 use native.Mathlib.Omega.{arith}
 use lib.Dec.{leb, ltb}
-use lib.ListN.{length, getD}
+use lib.ListN.{length, getD, set, take, replicate, length-replicate, replicate-append-replicate}
+use lib.Seq.{take-suc, length-take-le}
 use borrow.Author.Tests.{leb-true, leb-false, ltb-true, ltb-false}
 use Rattle.words.specs.Choice.{if_then_else_}
-use Rattle.words.specs.Over.{over, within}
+use Rattle.words.specs.Over.{over, put, within}
 
 module _ (f : ℕ → ℕ → ℕ) where
   -- the length stays
@@ -64,3 +66,51 @@ module _ (f : ℕ → ℕ → ℕ) where
           let r : i < at + length new = ltb-true i (at + length new) e′ in
           let k : at + (i - at) ≡ i = omega arith in
           rw k at (over-within m at new (i - at) (omega arith) (rw k h))
+
+-- ---- a loop that lays byte after byte
+
+module _ (f : ℕ → ℕ → ℕ) where
+  -- no new byte changes nothing
+  pub over-none : (m : List ℕ) (at : ℕ) → over f m at [] ≡ m
+  over-none [] at = refl
+  over-none (x ∷ m) (suc at) = ap (λ (r : List ℕ). x ∷ r) (over-none m at)
+  over-none (x ∷ m) zero = refl
+
+  -- a store behind the bytes laid lays one more
+  over-snoc-first : (m new : List ℕ) (b : ℕ) → length new < length m
+      → set (over f m zero new) (length new) (f (getD m (length new) 0) b) ≡ over f m zero (new ++ (b ∷ []))
+  over-snoc-first [] new b h = absurd (not-suc-le-zero h)
+  over-snoc-first (x ∷ m) [] b h = ap (λ (r : List ℕ). f x b ∷ r) (sym (over-none m zero))
+  over-snoc-first (x ∷ m) (a ∷ new) b h = ap (λ (r : List ℕ). f x a ∷ r) (over-snoc-first m new b (le-of-suc-le-suc h))
+
+  over-snoc : (m : List ℕ) (at : ℕ) (new : List ℕ) (b : ℕ) → at + length new < length m
+      → set (over f m at new) (at + length new) (f (getD m (at + length new) 0) b) ≡ over f m at (new ++ (b ∷ []))
+  over-snoc m zero new b h = rw zero-add (over-snoc-first m new b (rw zero-add at h))
+  over-snoc [] (suc at) new b h = absurd (not-suc-le-zero h)
+  over-snoc (x ∷ m) (suc at) new b h =
+      rw suc-add (ap (λ (r : List ℕ). x ∷ r) (over-snoc m at new b (le-of-suc-le-suc (rw suc-add at h))))
+
+  -- a turn that lays byte j of some bytes
+  pub over-more : (m : List ℕ) (at : ℕ) (new : List ℕ) (j : ℕ) → at + j < length m → j < length new
+      → set (over f m at (take j new)) (at + j) (f (getD (over f m at (take j new)) (at + j) 0) (getD new j 0))
+      ≡ over f m at (take (j + 1) new)
+  over-more m at new j h k =
+      let e : length (take j new) ≡ j = length-take-le j new (omega arith) in
+      let old : getD (over f m at (take j new)) (at + j) 0 ≡ getD m (at + j) 0 =
+      over-behind f m at (take j new) (at + j) (omega arith) in
+      rw (old, add-one, take-suc new j 0) (rw e at (over-snoc m at (take j new) (getD new j 0) (rw e h)))
+
+  -- a turn that lays one byte again
+  pub over-again : (m : List ℕ) (at b j : ℕ) → at + j < length m
+      → set (over f m at (replicate j b)) (at + j) (f (getD (over f m at (replicate j b)) (at + j) 0) b)
+      ≡ over f m at (replicate (j + 1) b)
+  over-again m at b j h =
+      let e : length (replicate j b) ≡ j = length-replicate j b in
+      let old : getD (over f m at (replicate j b)) (at + j) 0 ≡ getD m (at + j) 0 =
+      over-behind f m at (replicate j b) (at + j) (omega arith) in
+      rw (old, ← replicate-append-replicate j 1 b) (rw e at (over-snoc m at (replicate j b) b (rw e h)))
+
+-- a byte put over the whole of a memory
+pub put-all : (m : List ℕ) (b : ℕ) → put m 0 (replicate (length m) b) ≡ replicate (length m) b
+put-all [] b = refl
+put-all (x ∷ m) b = ap (λ (r : List ℕ). b ∷ r) (put-all m b)

@@ -1,7 +1,10 @@
 -- Laws of tests: what a test that holds says of its parts.
-use mathlib.Core.Path.{_≡_, refl}
+use mathlib.Core.Path.{_≡_, refl, sym}
 use mathlib.Core.Bool.{Bool, true, false, not, _&&_}
-use lib.Dec.{T}
+use Prim.Native.Nat.{ℕ, _≤_}
+use native.Mathlib.Nat.{lt-of-not-le, not-le-of-lt}
+use lib.Dec.{T, leb}
+use borrow.Author.Tests.{le-leb, lt-leb, leb-true, leb-false}
 use Rattle.words.specs.Choice.{if_then_else_}
 
 -- both parts of a test that joins two hold
@@ -37,3 +40,11 @@ chosen false x y t = absurd t
 pub same-choice {ℓ} : {A : Type ℓ} (a : Bool) (x : A) → (if a then x else x) ≡ x
 same-choice true x = refl
 same-choice false x = refl
+
+-- two orders that follow from each other are tested alike
+pub same-order : (a b c d : ℕ) → (a ≤ b → c ≤ d) → (c ≤ d → a ≤ b) → leb a b ≡ leb c d
+same-order a b c d f g = by-test (leb a b) refl
+  where
+    by-test : (t : Bool) → leb a b ≡ t → t ≡ leb c d
+    by-test true e = sym (le-leb c d (f (leb-true a b e)))
+    by-test false e = sym (lt-leb c d (lt-of-not-le λ k. not-le-of-lt (leb-false a b e) (g k)))

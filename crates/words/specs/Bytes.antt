@@ -8,10 +8,14 @@ use lib.Bits.{bitXor}
 abbrev pub complement : ℕ → ℕ
 complement b = 255 - b
 
+-- the XOR of a number and all the bytes of a list
+abbrev pub xorFrom : ℕ → List ℕ → ℕ
+xorFrom x [] = x
+xorFrom x (b ∷ bs) = xorFrom (bitXor x b) bs
+
 -- the XOR of all the bytes of a list
 abbrev pub xorAll : List ℕ → ℕ
-xorAll [] = 0
-xorAll (b ∷ bs) = bitXor b (xorAll bs)
+xorAll bs = xorFrom 0 bs
 
 -- the number that bytes write, high byte first
 abbrev pub number : List ℕ → ℕ

@@ -3,6 +3,7 @@ use Prim.Native.Nat.{ℕ, zero, suc, _+_, _*_}
 use mathlib.Core.Bool.{Bool, true, false, _&&_, _||_}
 use mathlib.Core.List.{List, [], _∷_, _++_}
 use lib.ListN.{length, take, drop}
+use Rattle.words.specs.Bytes.{number}
 
 -- some element passes the test
 abbrev pub any {ℓ} : {A : Type ℓ} → (A → Bool) → List A → Bool
@@ -27,7 +28,7 @@ part at n l = take n (drop at l)
 abbrev pub pairs : List ℕ → List ℕ
 pairs [] = []
 pairs (h ∷ []) = []
-pairs (h ∷ l ∷ bs) = (h * 256 + l) ∷ pairs bs
+pairs (h ∷ l ∷ bs) = number (h ∷ l ∷ []) ∷ pairs bs
 
 -- each byte by itself
 abbrev pub singly : List ℕ → List (List ℕ)

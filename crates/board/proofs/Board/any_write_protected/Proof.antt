@@ -1,0 +1,32 @@
+-- Before each turn the sectors that are left give the same answer as all of them.
+use native.Mathlib.Omega.{arith}
+use mathlib.Core.Path.{_≡_, refl}
+use Prim.Native.Nat.{_+_}
+use lib.Dec.{lt→ltb}
+use Rattle.words.specs.Lists.{any}
+use Rattle.board.specs.Quantities.{sector, sectorsFrom}
+use Rattle.board.specs.Usd.{writeProtected}
+use Rattle.board.proofs.InOrder.{any-first}
+use Rattle.board.proofs.Board.any_write_protected.Statement.{statement}
+use Rattle.board.proofs.Board.any_write_protected.Tie as tie
+
+abbrev Inv-loop : tie.InvT-loop
+Inv-loop usd n k₀ left₀ k left = (k + left ≡ k₀ + left₀) × (any (writeProtected usd) (sectorsFrom (sector k) left) ≡ any (writeProtected usd) (sectorsFrom (sector k₀) left₀))
+
+abbrev μ-loop : tie.MeasureT-loop
+μ-loop usd n k₀ left₀ k left = left
+
+pub any-write-protected-spec : {M : Type 1} → statement M
+any-write-protected-spec =
+    tie.close
+    (tie.spec
+    Inv-loop
+    μ-loop
+    (λ c. (refl, refl))
+    (λ c κs. (omega arith, lt→ltb (c .before .loop .k) 32 (omega arith)))
+    (λ c. rw (← c .before .before .before .loop .inv .1, any-first (writeProtected (c .before .before .before .before .before .args .usd .now)) (c .before .before .before .loop .k) (c .before .before .before .loop .left) (omega arith), ← c .before .write-protected .ensures, c .if1 .taken))
+    (λ c. omega arith)
+    (λ c. omega arith)
+    (λ c. omega arith)
+    (λ c. (omega arith, rw (any-first (writeProtected (c .before .before .before .before .before .args .usd .now)) (c .before .before .before .loop .k) (c .before .before .before .loop .left) (omega arith), ← c .before .write-protected .ensures, c .if1 .left) at (c .before .before .before .loop .inv .1)))
+    (λ c. let e : c .before .loop .left ≡ 0 = omega arith in rw (← c .before .loop .inv .1, e)))

@@ -1,0 +1,23 @@
+-- The byte goes in at the high end, and each of its eight bits is one move.
+use borrow.Author.Needs.{needs}
+use native.Mathlib.Omega.{arith}
+use Prim.Native.Nat.{_*_, _%_, _^_}
+use mathlib.Core.Path.{_≡_}
+use Rattle.crc.specs.Crc.{taken}
+use Rattle.crc.proofs.take.Statement.{statement}
+use Rattle.crc.proofs.take.Tie as tie
+
+pub take-spec : {M : Type 1} → statement M
+unfolding taken
+take-spec =
+    tie.close
+    (tie.spec
+    (λ c κs. search needs)
+    (λ c κs. search needs)
+    (λ c κs. search needs)
+    (λ c κs. search needs)
+    (λ c κs. search needs)
+    (λ c κs. search needs)
+    (λ c κs. search needs)
+    (λ c κs. search needs)
+    (λ c. let e : c .before .before .before .before .before .before .before .before .args .byte * 16777216 % 2 ^ 32 ≡ c .before .before .before .before .before .before .before .before .args .byte * 16777216 = omega arith in cc))
