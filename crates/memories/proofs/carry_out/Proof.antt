@@ -1,8 +1,7 @@
 -- By the change: each arm's function does what the effect says.
 use borrow.Author.Needs.{needs}
 use native.Mathlib.Omega.{arith}
-use mathlib.Core.Path.{_≡_, _∙_}
-use Rattle.board.specs.declared.Region.the-variants.{Flash, Sram, Usd}
+use Rattle.board.specs.declared.Region.the-variants.{Flash, Usd}
 use Rattle.memories.specs.Memories.{memories}
 use Rattle.memories.specs.Effects.{erasedAll, effect}
 use Rattle.memories.proofs.Memories.{proper-length}

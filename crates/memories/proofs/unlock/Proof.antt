@@ -1,7 +1,7 @@
 -- Everything is filled where protection is on, and nothing is touched where it is off.
 use borrow.Author.Needs.{needs}
 use native.Mathlib.Omega.{arith}
-use mathlib.Core.Path.{_≡_, sym, _∙_}
+use mathlib.Core.Path.{sym, _∙_}
 use Rattle.board.specs.declared.Region.the-variants.{Flash, Sram, Usd}
 use Rattle.memories.specs.Memories.{memories}
 use Rattle.memories.specs.Effects.{wiped, effect}

@@ -1,7 +1,6 @@
 -- By the region: AND in flash, a copy elsewhere.
 use borrow.Author.Needs.{needs}
 use native.Mathlib.Omega.{arith}
-use mathlib.Core.Path.{_≡_}
 use Rattle.board.specs.declared.Region.the-variants.{Flash, Sram, Usd}
 use Rattle.memories.specs.Memories.{memories}
 use Rattle.memories.specs.Effects.{written}

@@ -1,7 +1,7 @@
 -- Each turn lays one byte more of those that are copied.
 use native.Mathlib.Omega.{arith}
 use mathlib.Core.Path.{_≡_, refl, sym}
-use Prim.Native.Nat.{_≤_, _-_, _+_, _<_}
+use Prim.Native.Nat.{_≤_, _-_}
 use lib.ListN.{length, take, drop, length-set, length-drop}
 use lib.Seq.{getD-drop}
 use Rattle.words.specs.Over.{put, newer}

@@ -1,7 +1,7 @@
 -- Each turn joins one byte more with the old one.
 use native.Mathlib.Omega.{arith}
 use mathlib.Core.Path.{_≡_, refl, sym}
-use Prim.Native.Nat.{_≤_, _-_, _+_, _<_}
+use Prim.Native.Nat.{_≤_, _-_}
 use lib.ListN.{length, take, length-set}
 use lib.Bits.{bitAnd}
 use Rattle.words.specs.Over.{over}

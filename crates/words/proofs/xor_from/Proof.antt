@@ -3,7 +3,7 @@ use native.Mathlib.Omega.{arith}
 use mathlib.Core.Path.{_≡_, refl}
 use Prim.Native.Nat.{_≤_, _-_}
 use native.Mathlib.Numerals.{add-one}
-use lib.ListN.{length, take}
+use lib.ListN.{take}
 use lib.Seq.{slice, slice-cons, slice-empty}
 use Rattle.words.specs.Bytes.{xorFrom}
 use Rattle.words.proofs.xor_from.Statement.{statement}
