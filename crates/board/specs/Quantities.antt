@@ -1,7 +1,8 @@
 -- A sector number, a byte address and a count sent as one less: separate quantities, each converted here and nowhere else.
-use Prim.Native.Nat.{ℕ, _+_, _-_, _*_, _/_}
+use Prim.Native.Nat.{ℕ, _+_, _-_, _*_, _/_, _%_}
 use mathlib.Core.Bool.{Bool}
 use mathlib.Core.List.{List, map}
+use lib.ListN.{take}
 use lib.Dec.{eqb, ltb}
 use Rattle.words.specs.Lists.{any, countFrom, pairs}
 use Rattle.board.specs.Board.{sectors}
@@ -34,6 +35,14 @@ startOf k = k .0 * sectors .bytes
 abbrev pub sectorAt : ℕ → Sector
 sectorAt offset = sector (offset / sectors .bytes)
 
+-- a byte of flash is the first of its sector
+abbrev pub isStart : ℕ → Bool
+isStart offset = eqb (offset % sectors .bytes) 0
+
+-- the bytes of x whole sectors
+abbrev pub bytesIn : ℕ → ℕ
+bytesIn x = x * sectors .bytes
+
 -- the number of a sector that the board has: 0 to 31
 abbrev pub isSector : Sector → Bool
 isSector k = ltb (k .0) (sectors .count)
@@ -50,13 +59,19 @@ sectorsFrom k n = map sector (countFrom (k .0) n)
 abbrev pub everySector : List Sector
 everySector = sectorsFrom (sector 0) (sectors .count)
 
--- the sectors that a list of one-byte indexes names
+-- the sectors that a list of one-byte indexes names, and the first x of them
 abbrev pub indexed : List ℕ → List Sector
 indexed bytes = map sector bytes
 
--- the sectors that a list of two-byte numbers names
+abbrev pub firstIndexed : ℕ → List ℕ → List Sector
+firstIndexed x bytes = indexed (take x bytes)
+
+-- the sectors that a list of two-byte numbers names, and the first x of them
 abbrev pub numbered : List ℕ → List Sector
 numbered bytes = map sector (pairs bytes)
+
+abbrev pub firstNumbered : ℕ → List ℕ → List Sector
+firstNumbered x bytes = numbered (take (2 * x) bytes)
 
 -- how far an address lies behind a region's first one
 abbrev pub offsetIn : Extent → Address → ℕ

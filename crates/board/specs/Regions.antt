@@ -1,11 +1,11 @@
--- Where bytes lie: document 01, "Valid range".
-use Prim.Native.Nat.{ℕ, _+_, _-_, _/_, _%_}
+-- Where bytes lie: document 01, "Valid range", and the addresses of Jump and CRC.
+use Prim.Native.Nat.{ℕ, _+_, _-_}
 use mathlib.Core.Bool.{Bool, true, false, _&&_}
 use mathlib.Core.List.{List}
-use lib.Dec.{eqb, leb}
+use lib.Dec.{leb}
 use Rattle.words.specs.Choice.{if_then_else_}
-use Rattle.board.specs.Board.{flash, sram, usd, sectors}
-use Rattle.board.specs.Quantities.{offsetIn, sectorAt, sectorsFrom}
+use Rattle.board.specs.Board.{flash, sram, usd}
+use Rattle.board.specs.Quantities.{offsetIn, sectorAt, isStart, sectorsFrom}
 use Rattle.board.specs.declared.Address.{Address}
 use Rattle.board.specs.declared.Extent.{Extent}
 use Rattle.board.specs.declared.Place.{Place}
@@ -47,7 +47,7 @@ jumpable a = runnable (placeOf a 1)
 
 -- a place is in flash and on a sector boundary
 abbrev pub onBoundary : Place → Bool
-onBoundary (In Flash at) = eqb (at % sectors .bytes) 0
+onBoundary (In Flash at) = isStart at
 onBoundary (In Sram at) = false
 onBoundary (In Usd at) = false
 onBoundary Nowhere = false
@@ -58,4 +58,4 @@ sectorStart a = onBoundary (placeOf a 1)
 
 -- the sectors that x bytes of flash from an offset touch
 abbrev pub touched : ℕ → ℕ → List Sector
-touched at x = sectorsFrom (sectorAt at) ((at + x - 1) / sectors .bytes - at / sectors .bytes + 1)
+touched at x = sectorsFrom (sectorAt at) (sectorAt (at + x - 1) .0 - sectorAt at .0 + 1)

@@ -5,7 +5,8 @@ use mathlib.Core.List.{List}
 use lib.ListN.{getD}
 use lib.Dec.{eqb}
 use Rattle.words.specs.Bytes.{bit}
-use Rattle.board.specs.Board.{layout}
+use Rattle.words.specs.Over.{within}
+use Rattle.board.specs.Board.{layout, sectors}
 use Rattle.board.specs.declared.Sector.{Sector}
 
 -- byte 0 is 0xA5 for protection off; every other value means on
@@ -19,3 +20,7 @@ bitByte k = layout .«sector_bits» + k .0 / 8
 -- sector k is bit k mod 8 of byte 8 + k/8, and 0 means write-protected
 unfoldable pub writeProtected : List ℕ → Sector → Bool
 writeProtected u k = eqb (bit (getD u (bitByte k) 0) (k .0 % 8)) 0
+
+-- a byte holds no sector's bit
+abbrev pub besideBits : ℕ → Bool
+besideBits i = not (within (layout .«sector_bits») (sectors .count / 8) i)

@@ -7,11 +7,11 @@ use Rattle.words.specs.Choice.{if_then_else_}
 use Rattle.words.specs.Lists.{join}
 use Rattle.memories.specs.Memories.{Memories, proper}
 use Rattle.memories.specs.Effects.{effect}
-use Rattle.command.specs.Decision.{answer}
+use Rattle.command.specs.Decision.{if_gives_else_, answer}
 use Rattle.command.specs.Progress.{stagedWith}
 use Rattle.command.specs.Says.{says}
 use Rattle.command.specs.declared.Decision.{Decision}
-use Rattle.command.specs.declared.Next.the-variants.{Reset}
+use Rattle.command.specs.declared.Next.the-variants.{Stay, Reset}
 use Rattle.command.specs.declared.Reply.the-variants.{Silence}
 use Rattle.uart.specs.Conversation as UC
 use Rattle.can.specs.Steps as C
@@ -104,6 +104,10 @@ unfoldable pub call : Input → State → Outcome
 call i p =
     if accepts (causeFor i p) then perform i p (decide i (p .session) (p .memories .usd))
     else refused (causeFor i p) p
+
+-- what comes of an input, refused or not, is decided so; a refused one does nothing
+unfoldable pub done : Input → State → Decision
+done i p = if accepts (causeFor i p) gives decide i (p .session) (p .memories .usd) else answer Silence Stay
 
 -- ---- runs of inputs, power cycles among them
 

@@ -3,6 +3,7 @@ use Prim.Native.Nat.{ℕ}
 use mathlib.Core.Path.{_≡_}
 use mathlib.Core.List.{List, _++_}
 use lib.ListN.{length, drop}
+use Rattle.memories.specs.Memories.{memories}
 use Rattle.boot.specs.Session.{fresh}
 use Rattle.boot.specs.Causes.{causeNo}
 use Rattle.boot.specs.Calls.{State, Input, Byte, Framed, Outcome, call}
@@ -31,7 +32,7 @@ pub record Left : Type 0 where
 abbrev pub stateOf : Session → List ℕ → List ℕ → List ℕ → State
 stateOf s flash sram usd = record {
   session = s;
-  memories = record { flash = flash; sram = sram; usd = usd };
+  memories = memories flash sram usd;
 }
 
 -- a UART byte is given, and a CAN frame

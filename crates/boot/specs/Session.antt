@@ -10,6 +10,7 @@ use Rattle.command.specs.declared.Next.{Next}
 use Rattle.command.specs.declared.Next.the-variants.{Stay, Reset, Gather, GoIdle, SetSpeed, Enter, EnterAt, Run}
 use Rattle.uart.specs.Steps as U
 use Rattle.can.specs.Steps as C
+use Rattle.can.specs.Conversation.{largestSpeed}
 use Rattle.boot.specs.declared.Carrier.{Carrier}
 use Rattle.boot.specs.declared.Carrier.the-variants.{None, Uart, Can, Running}
 use Rattle.boot.specs.declared.Session.{Session}
@@ -36,16 +37,16 @@ idleExpects Uart = U.complementedByte
 idleExpects Can = C.oneFrame
 idleExpects Running = resting
 
--- no staged bytes
-abbrev pub noBytes : List ℕ
-noBytes = replicate 257 0
+-- how many staged bytes there are, and all of them 0
+abbrev pub stagedBytes : ℕ
+stagedBytes = 257
 
--- the speed at power on, and the largest
+abbrev pub noBytes : List ℕ
+noBytes = replicate stagedBytes 0
+
+-- the speed at power on
 abbrev pub freshSpeed : ℕ
 freshSpeed = 2
-
-abbrev pub largestSpeed : ℕ
-largestSpeed = 3
 
 -- ---- sound sessions
 

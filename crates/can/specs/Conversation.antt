@@ -1,12 +1,12 @@
 -- The CAN conversation, command by command and step by step: document 01, "CAN conversation".
-use Prim.Native.Nat.{ℕ, _+_, _-_}
+use Prim.Native.Nat.{ℕ, _+_}
 use mathlib.Core.Bool.{Bool, true, not, _||_}
 use mathlib.Core.List.{List, _∷_, map}
 use lib.ListN.{length, getD, take, drop}
 use lib.Dec.{eqb, leb}
 use Rattle.words.specs.Bytes.{number}
 use Rattle.board.specs.Board.{address, identity}
-use Rattle.board.specs.Quantities.{countOf, lessOne}
+use Rattle.board.specs.Quantities.{countOf, lessOne, oneLess}
 use Rattle.board.specs.declared.Address.{Address}
 use Rattle.memories.specs.declared.Change.the-variants.{EraseAll}
 use Rattle.command.specs.Commands.{code, canCommands, lookUp}
@@ -36,7 +36,11 @@ connectId = 0x79
 
 -- 0x00 tells n - 1, version, list, where n counts version and commands
 abbrev pub commandBytes : List ℕ
-commandBytes = (length canCommands + 1 - 1) ∷ identity .version ∷ map code canCommands
+commandBytes = oneLess (length canCommands + 1) .0 ∷ identity .version ∷ map code canCommands
+
+-- the largest speed
+abbrev pub largestSpeed : ℕ
+largestSpeed = 3
 
 -- the DLC that a command must have; the rest ignore DLC and data
 abbrev pub dlcFits : Command → ℕ → Bool
@@ -60,8 +64,8 @@ abbrev pub addressIn : List ℕ → Address
 addressIn d = address (number (take 4 d))
 
 -- the count, sent as one less, that data bytes write
-abbrev pub countIn : List ℕ → ℕ
-countIn d = countOf (lessOne (number d))
+abbrev pub countSent : List ℕ → ℕ
+countSent d = countOf (lessOne (number d))
 
 -- special erases: ACK, then ACK or NACK
 unfoldable pub erasedOrNot : Verdict → Decision
@@ -79,20 +83,20 @@ unfoldable pub obeyed : List ℕ → List ℕ → Command → Decision
 obeyed usd d GetCommands = telling Commands
 obeyed usd d GetVersion = telling Version
 obeyed usd d GetDeviceId = telling DeviceId
-obeyed usd d ReadMemory = reading (addressIn d) (countIn (drop 4 d))
+obeyed usd d ReadMemory = reading (addressIn d) (countSent (drop 4 d))
 obeyed usd d Jump = jumping (addressIn d)
 obeyed usd d WriteMemory =
-    judged (writeVerdict usd (addressIn d) (countIn (drop 4 d)))
-    (answer Ack (EnterAt (stepNo WriteData) (countIn (drop 4 d)) (addressIn d .0)))
+    judged (writeVerdict usd (addressIn d) (countSent (drop 4 d)))
+    (answer Ack (EnterAt (stepNo WriteData) (countSent (drop 4 d)) (addressIn d .0)))
 obeyed usd d Erase = selected usd (selectorOf (number d))
-obeyed usd d ProgramProtect = answer Ack (Enter (stepNo ProtectList) (countIn d))
+obeyed usd d ProgramProtect = answer Ack (Enter (stepNo ProtectList) (countSent d))
 obeyed usd d ProgramUnprotect = releasing
 obeyed usd d AccessProtect = locking
 obeyed usd d AccessUnprotect = unlocking
-obeyed usd d FirmwareCrc = summing (addressIn d) (countIn (drop 4 d))
+obeyed usd d FirmwareCrc = summing (addressIn d) (countSent (drop 4 d))
 obeyed usd d ResetDevice = resetting
 obeyed usd d Speed =
-    if leb (getD d 0 0) 3 gives answer AckAck (SetSpeed (getD d 0 0)) else nack BadSpeed
+    if leb (getD d 0 0) largestSpeed gives answer AckAck (SetSpeed (getD d 0 0)) else nack BadSpeed
 
 -- the ID is the command; a wrong DLC, no command, or a protected one: NACK
 unfoldable pub commanded : List ℕ → List ℕ → Lookup → Decision

@@ -4,6 +4,8 @@ use mathlib.Core.Bool.{Bool, _&&_}
 use mathlib.Core.List.{List, [], _∷_}
 use lib.ListN.{getD}
 use lib.Dec.{eqb, leb}
+use Rattle.board.specs.Board.{sectors}
+use Rattle.memories.specs.Effects.{largestCount}
 use Rattle.can.specs.declared.Step.{Step}
 use Rattle.can.specs.declared.Step.the-variants.{Idle, WriteData, EraseList, ProtectList}
 
@@ -36,6 +38,6 @@ numbersIn e = e / 2
 -- a step may expect this many frames or bytes
 abbrev pub expects : Step → ℕ → Bool
 expects Idle e = eqb e oneFrame
-expects WriteData e = leb 1 e && leb e 256
-expects EraseList e = leb (expectedForNumbers 1) e && leb e (expectedForNumbers 32) && eqb (e % 2) 0
-expects ProtectList e = leb 1 e && leb e 256
+expects WriteData e = leb 1 e && leb e largestCount
+expects EraseList e = leb (expectedForNumbers 1) e && leb e (expectedForNumbers (sectors .count)) && eqb (e % 2) 0
+expects ProtectList e = leb 1 e && leb e largestCount

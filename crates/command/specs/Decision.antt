@@ -12,7 +12,7 @@ use Rattle.command.specs.declared.Verdict.the-variants.{Fine, No}
 use Rattle.command.specs.declared.Why.{Why}
 
 infixr 5 if_gives_else_
--- the first decision where the test holds, and the second where it does not
+-- the first decision where the test holds, and the second where it does not; shut, so that a law speaks of the choice and not of its cases
 unfoldable pub if_gives_else_ : Bool → Decision → Decision → Decision
 if true gives a else b = a
 if false gives a else b = b

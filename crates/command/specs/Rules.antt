@@ -1,13 +1,12 @@
 -- The rules of the commands, said once for both carriers: document 01, "Effects shared by both carriers".
-use Prim.Native.Nat.{ℕ, _*_}
+use Prim.Native.Nat.{ℕ}
 use mathlib.Core.Bool.{not, _&&_, _||_}
 use mathlib.Core.List.{List}
-use lib.ListN.{take}
 use lib.Dec.{eqb, leb}
 use Rattle.words.specs.Choice.{if_then_else_}
 use Rattle.words.specs.Lists.{any, all}
 use Rattle.board.specs.Board as B
-use Rattle.board.specs.Quantities.{isSector, everySector, lessOne, indexed, numbered, sector}
+use Rattle.board.specs.Quantities.{countOf, lessOne, bytesIn, isSector, everySector, firstIndexed, firstNumbered}
 use Rattle.board.specs.Regions.{placeOf, known, jumpable, sectorStart, touched}
 use Rattle.board.specs.Usd.{protectionOn, writeProtected}
 use Rattle.board.specs.declared.Address.{Address}
@@ -71,11 +70,21 @@ writeAt Nowhere x = nack BadRange
 unfoldable pub writing : List ℕ → Address → ℕ → Decision
 writing usd a x = judged (writeVerdict usd a x) (writeAt (placeOf a x) x)
 
--- 0x44: 0xFFFB to 0xFFFF are special, 0 to 31 announce a list, others are impossible
+-- the first special selector, and the two that erase all flash
+abbrev pub firstSpecial : ℕ
+firstSpecial = 0xFFFB
+
+abbrev pub wholeFlash : ℕ
+wholeFlash = 0xFFFF
+
+abbrev pub firstBank : ℕ
+firstBank = 0xFFFE
+
+-- 0x44: 0xFFFB to 0xFFFF are special, 0 to 31 announce a list of one more, others are impossible
 unfoldable pub selectorOf : ℕ → Selector
 selectorOf n =
-    if leb 0xFFFB n then Special n
-    else if isSector (sector n) then Listed (lessOne n)
+    if leb firstSpecial n then Special n
+    else if leb (countOf (lessOne n)) (B.sectors .count) then Listed (lessOne n)
     else Impossible
 
 -- any number over 31 or any write-protected sector named refuses the whole list
@@ -87,12 +96,12 @@ eraseVerdict usd ks =
 
 -- the x sectors whose numbers are staged are erased, or none
 unfoldable pub erasing : List ℕ → List ℕ → ℕ → Decision
-erasing usd staged x = judged (eraseVerdict usd (numbered (take (2 * x) staged))) (alter Ack (EraseSectors x) GoIdle)
+erasing usd staged x = judged (eraseVerdict usd (firstNumbered x staged)) (alter Ack (EraseSectors x) GoIdle)
 
--- 0xFFFF and 0xFFFE both mean all flash, refused if any sector is write-protected; other special selectors are refused
+-- 0xFFFF and 0xFFFE both mean all flash, refused if any sector is write-protected; other special selectors are refused, and name none
 unfoldable pub eraseAllVerdict : List ℕ → ℕ → Verdict
 eraseAllVerdict usd n =
-    if not (eqb n 0xFFFF || eqb n 0xFFFE) then No UnsupportedErase
+    if not (eqb n wholeFlash || eqb n firstBank) then No UnsupportedErase
     else if any (writeProtected usd) everySector then No WriteProtected
     else Fine
 
@@ -101,7 +110,7 @@ unfoldable pub protectVerdict : List Sector → Verdict
 protectVerdict ks = if all isSector ks then Fine else No BadSector
 
 unfoldable pub protecting : List ℕ → ℕ → Decision
-protecting staged x = judged (protectVerdict (indexed (take x staged))) (alter Ack (ProtectOnly x) Reset)
+protecting staged x = judged (protectVerdict (firstIndexed x staged)) (alter Ack (ProtectOnly x) Reset)
 
 -- 0x73, 0x82, 0x92 and 0xD4: a second ACK at once, then reset
 abbrev pub releasing : Decision
@@ -128,4 +137,4 @@ sumAt (In Usd at) n = nack BadRange
 sumAt Nowhere n = nack BadRange
 
 unfoldable pub summing : Address → ℕ → Decision
-summing a x = if sectorStart a gives sumAt (placeOf a (x * B.sectors .bytes)) (x * B.sectors .bytes) else nack BadAddress
+summing a x = if sectorStart a gives sumAt (placeOf a (bytesIn x)) (bytesIn x) else nack BadAddress

@@ -16,15 +16,15 @@ ackByte = 0x79
 abbrev pub nackByte : ℕ
 nackByte = 0x1F
 
-abbrev pub ack : List ℕ
-ack = ackByte ∷ []
+abbrev pub ackMessage : List ℕ
+ackMessage = ackByte ∷ []
 
-abbrev pub nak : List ℕ
-nak = nackByte ∷ []
+abbrev pub nackMessage : List ℕ
+nackMessage = nackByte ∷ []
 
 -- ACK, then bytes one by one, then ACK
 abbrev pub told : List ℕ → List (List ℕ)
-told bytes = ack ∷ singly bytes ++ ack ∷ []
+told bytes = ackMessage ∷ singly bytes ++ ackMessage ∷ []
 
 -- 0x01: version, BID
 abbrev pub versionBytes : List ℕ
@@ -39,12 +39,12 @@ deviceBytes =
 -- the messages of a reply, given what the carrier tells of its commands
 unfoldable pub says : List ℕ → Reply → Memories → List (List ℕ)
 says commands Silence m = []
-says commands Ack m = ack ∷ []
-says commands AckAck m = ack ∷ ack ∷ []
-says commands (Nack w) m = nak ∷ []
-says commands (AckNack w) m = ack ∷ nak ∷ []
+says commands Ack m = ackMessage ∷ []
+says commands AckAck m = ackMessage ∷ ackMessage ∷ []
+says commands (Nack w) m = nackMessage ∷ []
+says commands (AckNack w) m = ackMessage ∷ nackMessage ∷ []
 says commands Commands m = told commands
 says commands Version m = told versionBytes
 says commands DeviceId m = told deviceBytes
-says commands (Data r at x) m = ack ∷ part at x (bytesOf r m) ∷ []
-says commands (Crc at n) m = ack ∷ fourBytes (crc (part at n (m .flash))) ∷ []
+says commands (Data r at x) m = ackMessage ∷ part at x (bytesOf r m) ∷ []
+says commands (Crc at n) m = ackMessage ∷ fourBytes (crc (part at n (m .flash))) ∷ []

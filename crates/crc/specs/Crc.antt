@@ -22,13 +22,13 @@ shiftedBy zero c = c
 shiftedBy (suc n) c = shiftedBy n (shifted c)
 
 -- a byte goes in at the register's high end, and then its eight bits
-unfoldable pub taken : ℕ → ℕ → ℕ
-taken c b = shiftedBy 8 (bitXor c (b * 2 ^ 24))
+unfoldable pub fed : ℕ → ℕ → ℕ
+fed c b = shiftedBy 8 (bitXor c (b * 2 ^ 24))
 
 -- bytes in address order, from a register on
 abbrev pub crcFrom : ℕ → List ℕ → ℕ
 crcFrom c [] = c
-crcFrom c (b ∷ bs) = crcFrom (taken c b) bs
+crcFrom c (b ∷ bs) = crcFrom (fed c b) bs
 
 -- the checksum of a list of bytes
 abbrev pub crc : List ℕ → ℕ

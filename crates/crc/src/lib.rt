@@ -1,5 +1,5 @@
 ghost use mathlib.Core.Path.{_≡_};
-ghost use Rattle.crc.specs.Crc.{shifted, taken, crc};
+ghost use Rattle.crc.specs.Crc.{shifted, fed, crc};
 
 // The polynomial of CRC-32/MPEG-2.
 pub const POLYNOMIAL: u32 = 0x04C1_1DB7;
@@ -7,7 +7,7 @@ pub const POLYNOMIAL: u32 = 0x04C1_1DB7;
 // The register before the first byte.
 pub const START: u32 = 0xFFFF_FFFF;
 
-// The bit that is taken first.
+// The bit that is fed first.
 const HIGH_BIT: u32 = 0x8000_0000;
 
 // The register moved up by one bit.
@@ -23,7 +23,7 @@ fn shift(register: u32) -> u32
 
 // The register with one byte more.
 fn take(register: u32, byte: u8) -> u32
-    ensures { λ r. ⌜ r ≡ taken register byte ⌝ }
+    ensures { λ r. ⌜ r ≡ fed register byte ⌝ }
 {
     let x = register ^ ((byte as u32) << 24);
     shift(shift(shift(shift(shift(shift(shift(shift(x))))))))

@@ -1,6 +1,6 @@
 pub mod Memories
 pub mod Lists
-pub mod Possible
+pub mod Fits
 pub mod Written
 pub mod Erased
 pub mod Protected

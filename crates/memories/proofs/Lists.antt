@@ -8,7 +8,7 @@ use lib.Seq.{slice}
 use Rattle.words.specs.Bytes.{number}
 use Rattle.words.specs.Lists.{all}
 use Rattle.words.specs.Over.{put}
-use Rattle.words.proofs.Slices.{slice-first, pairs-first}
+use Rattle.board.proofs.InOrder.{numbered-first, indexed-first}
 use Rattle.board.specs.Quantities.{sector, startOf, isSector, indexed, numbered}
 use Rattle.memories.specs.Effects.{blank, erased}
 use Rattle.memories.specs.Protection.{alsoProtected, allProtected}
@@ -16,18 +16,18 @@ use Rattle.memories.specs.Protection.{alsoProtected, allProtected}
 module _ (s : List ℕ) (j m k : ℕ) (e : k ≡ number (getD s j 0 ∷ getD s (j + 1) 0 ∷ [])) (h : j + 1 < m) (l : m ≤ length s) where
   -- all of the numbers are sectors where the first one is, and the rest
   pub all-numbered : all isSector (numbered (slice j m s)) ≡ (isSector (sector k) && all isSector (numbered (slice (j + 2) m s)))
-  all-numbered = rw (pairs-first s j m h l, e)
+  all-numbered = rw (numbered-first s j m k e h l)
 
   -- erasing them all erases the first one, and then the rest
   pub erased-numbered : (f : List ℕ)
       → erased f (numbered (slice j m s)) ≡ erased (put f (startOf (sector k)) blank) (numbered (slice (j + 2) m s))
-  erased-numbered f = rw (pairs-first s j m h l, e)
+  erased-numbered f = rw (numbered-first s j m k e h l)
 
 module _ (s : List ℕ) (i n : ℕ) (h : i < n) (l : n ≤ length s) where
   -- the same for indexes
   pub all-indexed : all isSector (indexed (slice i n s)) ≡ (isSector (sector (getD s i 0)) && all isSector (indexed (slice (i + 1) n s)))
-  all-indexed = rw (slice-first s i n h l)
+  all-indexed = rw (indexed-first s i n h l)
 
   pub protected-indexed : (u : List ℕ)
       → allProtected u (indexed (slice i n s)) ≡ allProtected (alsoProtected u (sector (getD s i 0))) (indexed (slice (i + 1) n s))
-  protected-indexed u = rw (slice-first s i n h l)
+  protected-indexed u = rw (indexed-first s i n h l)

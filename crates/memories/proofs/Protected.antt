@@ -1,6 +1,6 @@
 -- Protection, sector by sector: after 0x63 exactly the named sectors are write-protected, after 0x73 none is.
 use mathlib.Core.Path.{_≡_, refl, sym, ap, _∙_}
-use mathlib.Core.Bool.{Bool, true, false, not, _&&_, _||_, or-false, or-true, or-assoc}
+use mathlib.Core.Bool.{Bool, true, false, _&&_, _||_, or-false, or-true, or-assoc}
 use mathlib.Core.List.{List, [], _∷_}
 use mathlib.Core.Logic.{⊎-elim}
 use Prim.Native.Nat.{ℕ, zero, suc, _+_, _-_, _/_, _%_, _^_, _<_}
@@ -17,9 +17,8 @@ use Rattle.words.specs.Lists.{all}
 use Rattle.words.specs.Over.{newer, within}
 use Rattle.words.proofs.Over.{length-over, over-within, over-at}
 use Rattle.words.proofs.Tests.{both-left, both-right, fails-false}
-use Rattle.board.specs.Board as B
 use Rattle.board.specs.Quantities.{isSector, named}
-use Rattle.board.specs.Usd.{bitByte, writeProtected}
+use Rattle.board.specs.Usd.{besideBits, bitByte, writeProtected}
 use Rattle.board.specs.declared.Sector.{Sector}
 use Rattle.memories.specs.Protection.{released, alsoProtected, allProtected, onlyProtected}
 
@@ -132,10 +131,6 @@ only-named u ks k l t h =
     ∙ ap (λ (b : Bool). b || named ks k) (released-none u k l h)
 
 -- ---- the other bytes of user system data
-
--- place i holds none of the sector bits
-abbrev besideBits : ℕ → Bool
-besideBits i = not (within (B.layout .«sector_bits») 4 i)
 
 released-beside : (u : List ℕ) (i : ℕ) → i < length u → T (besideBits i) → getD (released u) i 0 ≡ getD u i 0
 unfolding released

@@ -1,5 +1,5 @@
 -- What each change does to the memories: document 01, "Effects shared by both carriers".
-use Prim.Native.Nat.{ℕ, _+_, _*_}
+use Prim.Native.Nat.{ℕ, _+_}
 use mathlib.Core.Bool.{Bool, true, _&&_}
 use mathlib.Core.List.{List, [], _∷_}
 use lib.ListN.{take, replicate}
@@ -9,7 +9,7 @@ use Rattle.words.specs.Choice.{if_then_else_}
 use Rattle.words.specs.Lists.{all}
 use Rattle.words.specs.Over.{over, put}
 use Rattle.board.specs.Board as B
-use Rattle.board.specs.Quantities.{startOf, isSector, indexed, numbered}
+use Rattle.board.specs.Quantities.{startOf, isSector, firstIndexed, firstNumbered}
 use Rattle.board.specs.Usd.{protectionOn}
 use Rattle.board.specs.declared.Region.{Region}
 use Rattle.board.specs.declared.Region.the-variants.{Flash, Sram, Usd}
@@ -18,6 +18,10 @@ use Rattle.memories.specs.Memories.{Memories, withBytes}
 use Rattle.memories.specs.Protection.{released, onlyProtected, locked, unlocked}
 use Rattle.memories.specs.declared.Change.{Change}
 use Rattle.memories.specs.declared.Change.the-variants.{Nothing, Write, EraseAll, EraseSectors, ProtectOnly, Release, Lock, Unlock}
+
+-- the most bytes that a command carries
+abbrev pub largestCount : ℕ
+largestCount = 256
 
 -- an erased byte of flash
 abbrev pub erasedByte : ℕ
@@ -45,7 +49,7 @@ erasedAll m = withBytes Flash (replicate (B.flash .bytes) erasedByte) m
 -- flash becomes 0xFF, SRAM 0 and USD byte 0 0xA5
 unfoldable pub wiped : Memories → Memories
 wiped m = record {
-  flash = replicate (B.flash .bytes) erasedByte;
+  flash = erasedAll m .flash;
   sram = replicate (B.sram .bytes) 0;
   usd = unlocked (m .usd);
 }
@@ -55,19 +59,19 @@ unfoldable pub effect : Change → List ℕ → Memories → Memories
 effect Nothing staged m = m
 effect (Write r at x) staged m = written r at (take x staged) m
 effect EraseAll staged m = erasedAll m
-effect (EraseSectors x) staged m = withBytes Flash (erased (m .flash) (numbered (take (2 * x) staged))) m
-effect (ProtectOnly x) staged m = withBytes Usd (onlyProtected (m .usd) (indexed (take x staged))) m
+effect (EraseSectors x) staged m = withBytes Flash (erased (m .flash) (firstNumbered x staged)) m
+effect (ProtectOnly x) staged m = withBytes Usd (onlyProtected (m .usd) (firstIndexed x staged)) m
 effect Release staged m = withBytes Usd (released (m .usd)) m
 effect Lock staged m = withBytes Usd (locked (m .usd)) m
 effect Unlock staged m = if protectionOn (m .usd) then wiped m else m
 
--- a change that can be carried out: its bytes are in their region, and its sectors are some of the board's
-abbrev pub possible : Change → List ℕ → Bool
-possible Nothing staged = true
-possible (Write r at x) staged = leb x 256 && leb (at + x) (B.extentOf r .bytes)
-possible EraseAll staged = true
-possible (EraseSectors x) staged = leb x (B.sectors .count) && all isSector (numbered (take (2 * x) staged))
-possible (ProtectOnly x) staged = leb x 256 && all isSector (indexed (take x staged))
-possible Release staged = true
-possible Lock staged = true
-possible Unlock staged = true
+-- a change can be carried out: its bytes are in their region, and its sectors are some of the board's
+abbrev pub fits : Change → List ℕ → Bool
+fits Nothing staged = true
+fits (Write r at x) staged = leb x largestCount && leb (at + x) (B.extentOf r .bytes)
+fits EraseAll staged = true
+fits (EraseSectors x) staged = leb x (B.sectors .count) && all isSector (firstNumbered x staged)
+fits (ProtectOnly x) staged = leb x largestCount && all isSector (firstIndexed x staged)
+fits Release staged = true
+fits Lock staged = true
+fits Unlock staged = true

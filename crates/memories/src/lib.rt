@@ -6,10 +6,10 @@ ghost use lib.ListN.{length, take, replicate};
 ghost use Rattle.words.specs.Lists.{all};
 ghost use Rattle.words.specs.Over.{put};
 ghost use Rattle.board.specs.Board.{extentOf};
-ghost use Rattle.board.specs.Quantities.{startOf, isSector, indexed, numbered};
+ghost use Rattle.board.specs.Quantities.{startOf, isSector, firstIndexed, firstNumbered};
 ghost use Rattle.memories.specs.Memories.{memories, proper, bytesOf};
 ghost use Rattle.memories.specs.Protection.{released, alsoProtected, onlyProtected, locked, unlocked};
-ghost use Rattle.memories.specs.Effects.{blank, erased, written, wiped, effect, possible};
+ghost use Rattle.memories.specs.Effects.{blank, erased, written, wiped, effect, fits};
 use board::Board;
 use board::Region;
 use board::Sector;
@@ -62,8 +62,8 @@ fn erase_sector(flash: &mut [u8], sector: Sector)
 
 // Erases the x sectors whose two-byte numbers are staged.
 fn erase_sectors(flash: &mut [u8], staged: &[u8], x: usize)
-    requires { ⌜ (length (now flash) ≡ 32768) × (x ≤ 32) × (2 * x ≤ length (now staged)) × T (all isSector (numbered (take (2 * x) (now staged)))) ⌝ }
-    ensures { λ _. ⌜ now (flash .exit) ≡ erased (now (flash .entry)) (numbered (take (2 * x) (now (staged .entry)))) ⌝ }
+    requires { ⌜ (length (now flash) ≡ 32768) × (x ≤ 32) × (2 * x ≤ length (now staged)) × T (all isSector (firstNumbered x (now staged))) ⌝ }
+    ensures { λ _. ⌜ now (flash .exit) ≡ erased (now (flash .entry)) (firstNumbered x (now (staged .entry))) ⌝ }
 {
     let end = 2 * x;
     let mut j = 0;
@@ -103,8 +103,8 @@ fn protect_also(usd: &mut [u8], sector: Sector)
 
 // Makes the x sectors whose indexes are staged the only protected ones.
 fn protect_only(usd: &mut [u8], staged: &[u8], x: usize)
-    requires { ⌜ (length (now usd) ≡ 64) × (x ≤ length (now staged)) × T (all isSector (indexed (take x (now staged)))) ⌝ }
-    ensures { λ _. ⌜ now (usd .exit) ≡ onlyProtected (now (usd .entry)) (indexed (take x (now (staged .entry)))) ⌝ }
+    requires { ⌜ (length (now usd) ≡ 64) × (x ≤ length (now staged)) × T (all isSector (firstIndexed x (now staged))) ⌝ }
+    ensures { λ _. ⌜ now (usd .exit) ≡ onlyProtected (now (usd .entry)) (firstIndexed x (now (staged .entry))) ⌝ }
 {
     release(usd);
     let mut i = 0;
@@ -143,7 +143,7 @@ pub fn carry_out(
     sram: &mut [u8],
     usd: &mut [u8],
 )
-    requires { ⌜ T (proper (memories (now flash) (now sram) (now usd))) × T (possible change (now staged)) ⌝ }
+    requires { ⌜ T (proper (memories (now flash) (now sram) (now usd))) × T (fits change (now staged)) ⌝ }
     ensures { λ _. ⌜ memories (now (flash .exit)) (now (sram .exit)) (now (usd .exit)) ≡ effect change (now (staged .entry)) (memories (now (flash .entry)) (now (sram .entry)) (now (usd .entry))) ⌝ }
 {
     match change {

@@ -6,6 +6,9 @@ use mathlib.Core.List.{List, [], _∷_}
 use Prim.Native.Nat.{ℕ}
 use lib.Dec.{T, T-not}
 use Rattle.words.specs.Choice.{if_then_else_}
+use Rattle.words.specs.Lists.{any, all}
+use Rattle.board.specs.Quantities.{isSector}
+use Rattle.board.specs.Usd.{writeProtected}
 use Rattle.words.proofs.Tests.{both-left, both-right}
 use Rattle.memories.specs.Memories.{Memories}
 use Rattle.memories.specs.Effects.{effect}
@@ -19,14 +22,14 @@ use Rattle.command.specs.declared.Next.the-variants.{Stay, Reset, Gather, GoIdl
 use Rattle.command.specs.declared.Reply.the-variants.{Silence}
 use Rattle.boot.specs.Session.{idle, after, progress}
 use Rattle.boot.specs.Causes.{accepts}
-use Rattle.boot.specs.Calls.{State, Input, carrierOf, brings, causeFor, decide, perform, refused, call, run}
+use Rattle.boot.specs.Calls.{done, State, Input, carrierOf, brings, causeFor, decide, perform, refused, call, run}
 use Rattle.boot.specs.declared.Carrier.{Carrier}
 use Rattle.boot.specs.declared.Carrier.the-variants.{None, Uart, Can, Running}
 use Rattle.boot.specs.declared.Cause.{Cause}
 use Rattle.boot.specs.declared.Session.{Session}
-use Rattle.theorems.specs.Failures.{refuses, isRefused, inErase, erasePending, EraseAllOrNothing}
-use Rattle.theorems.specs.Secrecy.{done}
+use Rattle.theorems.specs.Failures.{acks, refuses, isRefused, inErase, erasePending, inEraseList, toErase, EraseAllOrNothing}
 use Rattle.theorems.proofs.Holds.{Holds}
+use Rattle.theorems.proofs.Listed.{erasable, decide-erase}
 use Rattle.theorems.proofs.Honest.{isNothing, ends, Honest, decide-honest}
 
 -- no change leaves the memories
@@ -117,5 +120,26 @@ erase-run (i ∷ is) p k =
     erase-run is (call i p .state) (both-right (inErase (call i p .state .session)) (erasePending is (call i p .state)) k)
     ∙ erase-call i p (both-left (inErase (call i p .state .session)) (erasePending is (call i p .state)) k)
 
+-- a list that is accepted
+accepted-list : (i : Input) (p : State) → T (inEraseList (p .session)) → T (acks (done i p .reply))
+    → T (all isSector (toErase i (p .session))) × T (not (any (writeProtected (p .memories .usd)) (toErase i (p .session))))
+unfolding done if_gives_else_
+accepted-list i p h a =
+    let ks = toErase i (p .session) in
+    let g : T (erasable (p .memories .usd) ks) = decide-erase i (p .session) (p .memories .usd) h (by-test (accepts (causeFor i p)) a) in (
+      both-left (all isSector ks) (not (any (writeProtected (p .memories .usd)) ks)) g,
+      both-right (all isSector ks) (not (any (writeProtected (p .memories .usd)) ks)) g,
+    )
+  where
+    by-test : (t : Bool) → T (acks ((if t gives decide i (p .session) (p .memories .usd) else answer Silence Stay) .reply))
+        → T (acks (decide i (p .session) (p .memories .usd) .reply))
+    by-test true a = a
+    by-test false a = absurd a
+
 pub erase-all-or-nothing : EraseAllOrNothing
-erase-all-or-nothing = record { refused = refused-call; pending = erase-run }
+erase-all-or-nothing = record {
+  refusal = refused-call;
+  pending = erase-run;
+  together = λ is i p k r. refused-call i (run is p) r ∙ erase-run is p k;
+  accepted = accepted-list;
+}

@@ -1,9 +1,10 @@
 -- What it says of a session that it is in a step of a carrier: it is on no other carrier, and its step is that one.
 use mathlib.Core.Path.{_≡_, sym, _∙_}
-use mathlib.Core.Bool.{Bool, true, false, not, _&&_, _||_}
+use mathlib.Core.Bool.{Bool, true, false, not, _&&_, _||_, or-comm}
+use mathlib.Core.List.{List}
 use Prim.Native.Nat.{ℕ}
 use native.Mathlib.Omega.{arith}
-use lib.Dec.{T, eqb, eqb→eq}
+use lib.Dec.{T, not-T, eqb, eqb→eq}
 use Rattle.words.specs.Choice.{if_then_else_}
 use Rattle.words.proofs.Tests.{both-left}
 use Rattle.memories.specs.Memories.{proper}
@@ -11,10 +12,15 @@ use Rattle.command.specs.Decision.{answer}
 use Rattle.command.specs.declared.Decision.{Decision}
 use Rattle.command.specs.declared.Next.the-variants.{Stay, GoIdle}
 use Rattle.command.specs.declared.Reply.the-variants.{Silence, Ack}
-use Rattle.boot.specs.Session.{on, carrierNo}
-use Rattle.boot.specs.Decide.{connected}
+use Rattle.uart.specs.Steps as U
+use Rattle.uart.specs.Conversation as UC
+use Rattle.can.specs.Steps as C
+use Rattle.can.specs.Conversation as CC
+use Rattle.can.specs.Frames.{frameIn}
+use Rattle.boot.specs.Session.{on, carrierNo, progress}
+use Rattle.boot.specs.Decide.{connected, decideByte, decideFrame}
 use Rattle.boot.specs.Causes.{causeOf, accepts}
-use Rattle.boot.specs.Calls.{State, Input, Power, Byte, Framed, causeFor}
+use Rattle.boot.specs.Calls.{State, Input, Power, Byte, Framed, causeFor, decide}
 use Rattle.boot.specs.declared.Carrier.{Carrier}
 use Rattle.boot.specs.declared.Carrier.the-variants.{None, Uart, Can}
 use Rattle.boot.specs.declared.Cause.{Cause}
@@ -54,6 +60,27 @@ pub connected-holds : (P : Decision → Type 0) (c : Carrier) (s : Session) (cal
 unfolding connected
 connected-holds P c s calls f g h =
     split P (on c s) f (λ n. split P (on None s && calls) (λ q. g (both-left (on None s) calls q)) (λ q. h))
+
+-- ---- what is decided in a step of one carrier or the other
+
+module _ (s : Session) (usd : List ℕ) (m n : ℕ) (h : T ((on Uart s && eqb (s .step) m) || (on Can s && eqb (s .step) n))) where
+  -- on a byte: what the step on UART hears, or nothing
+  pub byte-in : (P : Decision → Type 0) (room b : ℕ) → Holds P (answer Silence Stay)
+      → (T (on Uart s) → Holds P (UC.heard (U.stepOf m) (progress s) usd b)) → Holds P (decide (Byte room b) s usd)
+  unfolding decide decideByte
+  byte-in P room b q f =
+      connected-holds P Uart s _ (λ o. rw (step-on Uart Can s m n (λ e. omega arith) h o) (f o))
+      (λ o. absurd (not-unconnected s m n h o)) q
+
+  -- on a frame: what the step on CAN hears, or nothing
+  pub frame-in : (P : Decision → Type 0) (room : ℕ) (l : List ℕ) → Holds P (answer Silence Stay)
+      → (T (not (on Uart s)) → Holds P (CC.heard (C.stepOf n) (progress s) usd (frameIn l))) → Holds P (decide (Framed room l) s usd)
+  unfolding decide decideFrame
+  frame-in P room l q f =
+      connected-holds P Can s _
+      (λ o. rw (step-on Can Uart s n m (λ e. omega arith) (rw or-comm at h) o)
+      (f (not-T (on Uart s) (λ u. one-carrier Uart Can s (λ e. omega arith) u o))))
+      (λ o. absurd (not-unconnected s m n h o)) q
 
 -- ---- accepted inputs
 

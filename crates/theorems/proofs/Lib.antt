@@ -7,5 +7,6 @@ pub mod Erase
 pub mod Read
 pub mod InStep
 pub mod Write
+pub mod Listed
 pub mod Protect
 pub mod Determined

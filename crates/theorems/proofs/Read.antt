@@ -2,17 +2,15 @@
 use mathlib.Core.List.{List}
 use mathlib.Core.Path.{refl}
 use lib.Dec.{T}
-use Rattle.board.specs.Usd.{protectionOn}
-use Rattle.memories.specs.Memories.{Memories, proper}
-use Rattle.boot.specs.Calls.{Input, powered, run}
-use Rattle.theorems.specs.Failures.{reads, NeverRead}
-use Rattle.theorems.specs.Secrecy.{done, shut}
+use Rattle.boot.specs.Calls.{done, Input, powered, run}
+use Rattle.theorems.specs.Failures.{NeverRead}
+use Rattle.theorems.specs.Secrecy.{shut}
 use Rattle.theorems.proofs.Secrecy.{Twins, twins-fresh, twins-after, shows-nothing, quiet-done}
 
-pub never-read : (m : Memories) → T (proper m) → T (protectionOn (m .usd)) → NeverRead (powered m)
+pub never-read : NeverRead
 never-read m pm l = record {
-  reads = λ is i k. quiet-done i (run is (powered m)) (run is (powered m)) (after is k);
-  silent = λ is i k. shows-nothing i (run is (powered m) .session) (done i (run is (powered m)) .reply)
+  never = λ is i k. quiet-done i (run is (powered m)) (run is (powered m)) (after is k);
+  blind = λ is i k. shows-nothing i (run is (powered m) .session) (done i (run is (powered m)) .reply)
       (quiet-done i (run is (powered m)) (run is (powered m)) (after is k));
 }
   where

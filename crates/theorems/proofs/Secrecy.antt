@@ -8,7 +8,7 @@ use Rattle.words.specs.Choice.{if_then_else_}
 use Rattle.words.proofs.Tests.{both-left, both-right, both-hold, chosen}
 use Rattle.board.specs.Usd.{protectionOn}
 use Rattle.memories.specs.Memories.{Memories, proper}
-use Rattle.memories.specs.Effects.{effect, wiped}
+use Rattle.memories.specs.Effects.{effect, erasedAll, wiped}
 use Rattle.memories.specs.declared.Change.{Change}
 use Rattle.memories.specs.declared.Change.the-variants.{Nothing, Write, EraseAll, EraseSectors, ProtectOnly, Release, Lock, Unlock}
 use Rattle.command.specs.Decision.{if_gives_else_, answer}
@@ -21,12 +21,12 @@ use Rattle.command.specs.declared.Reply.the-variants.{Silence, Ack, AckAck, Nac
 use Rattle.can.specs.Frames.{classic, isFrame}
 use Rattle.boot.specs.Session.{after, progress}
 use Rattle.boot.specs.Causes.{causeOf, accepts, uartRoom, canRoom}
-use Rattle.boot.specs.Calls.{State, powered, Input, Power, Byte, Framed, Outcome, carrierOf, brings, commandsOf, causeFor, decide, sent, perform, refused, call, outcomes, run}
+use Rattle.boot.specs.Calls.{done, State, powered, Input, Power, Byte, Framed, Outcome, carrierOf, brings, commandsOf, causeFor, decide, sent, perform, refused, call, outcomes, run}
 use Rattle.boot.specs.declared.Cause.{Cause}
 use Rattle.boot.specs.declared.Cause.the-variants.{Accepted}
 use Rattle.boot.specs.declared.Session.{Session}
 use Rattle.theorems.specs.Failures.{reads}
-use Rattle.theorems.specs.Secrecy.{done, unlocks, opens, shut, veiled, Seen, seen, seenOf, Alike, Secret}
+use Rattle.theorems.specs.Secrecy.{unlocks, opens, shut, veiled, Seen, seen, seenOf, Alike, Demand3}
 use Rattle.theorems.proofs.Locked.{calm, fixed, harmless, Discreet, decide-discreet, after-calm}
 
 -- ---- what a discreet act shows of the memories, and does to them
@@ -63,7 +63,7 @@ changes-nothing Unlock h k staged m = absurd k
 -- Access Unprotect leaves two locked boards that are alike in user system data with the same memories
 wipes-alike : (c : Change) → T (unlocks c) → (staged : List ℕ) (m n : Memories) → T (protectionOn (m .usd)) → m .usd ≡ n .usd
     → effect c staged m ≡ effect c staged n
-unfolding effect wiped
+unfolding effect wiped erasedAll
 wipes-alike Nothing w staged m n l e = absurd w
 wipes-alike (Write r at x) w staged m n l e = absurd w
 wipes-alike EraseAll w staged m n l e = absurd w
@@ -227,10 +227,6 @@ module _ (i : Input) (p q : State) (w : Twins p q) where
       by-test true = f .quiet
       by-test false = tt
 
-  opening-alike : opens i p ≡ opens i q
-  unfolding opens
-  opening-alike = ap (λ (e : Decision). unlocks (e .change)) (sym second-done)
-
   one : T (not (opens i p)) → One i p q
   unfolding opens done seen call t d
   one k = record {
@@ -298,11 +294,10 @@ unfolding calm
 twins-fresh m n pm pn e l = record { session = refl; usd = e; locked = l; calm = tt; proper-p = pm; proper-q = pn }
 
 -- demand 3
-pub secret : (m n : Memories) → T (proper m) → T (proper n) → m .usd ≡ n .usd → T (protectionOn (m .usd))
-    → Secret (powered m) (powered n)
+pub secret : Demand3
 secret m n pm pn e l = record {
   before = λ is k. before is (powered m) (powered n) twins k;
-  opening = λ is i k. opening-alike i (run is (powered m)) (run is (powered n)) (twins-after is (powered m) (powered n) twins k);
+  decided = λ is i k. sym (second-done i (run is (powered m)) (run is (powered n)) (twins-after is (powered m) (powered n) twins k));
   after = λ is i js k o. outcomes-alike i js (run is (powered m)) (run is (powered n))
       (opened i (run is (powered m)) (run is (powered n)) (twins-after is (powered m) (powered n) twins k) o);
 }

@@ -1,7 +1,7 @@
 -- The club's failure (a): the data step of a write decides on nothing but a write of its own X bytes at its own address,
 -- and such a write changes no byte outside them.
 use mathlib.Core.Path.{_≡_, refl, sym, _∙_, subst}
-use mathlib.Core.Bool.{Bool, true, false, not, or-comm}
+use mathlib.Core.Bool.{Bool, true, false, not}
 use mathlib.Core.List.{List}
 use Prim.Native.Nat.{ℕ, _+_, _-_, _≤_, _<_}
 use native.Mathlib.Omega.{arith}
@@ -35,14 +35,13 @@ use Rattle.can.specs.Conversation as CC
 use Rattle.can.specs.Frames.{Frame, frameIn}
 use Rattle.can.specs.declared.Step as CS
 use Rattle.boot.specs.Session.{on, progress}
-use Rattle.boot.specs.Decide.{decideByte, decideFrame}
 use Rattle.boot.specs.Causes.{accepts}
 use Rattle.boot.specs.Calls.{State, Input, Power, Byte, Framed, brings, causeFor, decide, perform, refused, call}
-use Rattle.boot.specs.declared.Carrier.the-variants.{Uart, Can}
+use Rattle.boot.specs.declared.Carrier.the-variants.{Uart}
 use Rattle.boot.specs.declared.Session.{Session}
-use Rattle.theorems.specs.Failures.{inWrite, writeCount, isNamed, byteIn, byteAt, OnlyNamedBytes}
+use Rattle.theorems.specs.Failures.{inWrite, countOfBytes, isNamed, byteIn, byteAt, OnlyNamedBytes}
 use Rattle.theorems.proofs.Holds.{Holds, either, judged-either}
-use Rattle.theorems.proofs.InStep.{one-carrier, step-on, connected-holds, accepted-proper}
+use Rattle.theorems.proofs.InStep.{byte-in, frame-in, accepted-proper}
 
 -- ---- a write, byte by byte
 
@@ -136,17 +135,15 @@ can-only p usd f =
     either (Only (p .address) (p .expected)) _ (record { holds = tt })
     (either (Only (p .address) (p .expected)) _ (record { holds = tt }) (writing-only usd _ _))
 
-decide-only : (i : Input) (s : Session) (usd : List ℕ) → T (inWrite s) → Holds (Only (s .address) (writeCount s)) (decide i s usd)
-unfolding decide decideByte decideFrame
+decide-only : (i : Input) (s : Session) (usd : List ℕ) → T (inWrite s) → Holds (Only (s .address) (countOfBytes s)) (decide i s usd)
+unfolding decide
 decide-only Power s usd h = record { holds = tt }
 decide-only (Byte room b) s usd h =
-    connected-holds (Only (s .address) (writeCount s)) Uart s _
-    (λ o. rw (step-on Uart Can s 7 1 (λ e. omega arith) h o, holds-true (on Uart s) o) (uart-only (progress s) usd b))
-    (λ q. record { holds = tt }) (record { holds = tt })
+    byte-in s usd 7 1 h (Only (s .address) (countOfBytes s)) room b (record { holds = tt })
+    (λ o. rw (holds-true (on Uart s) o) (uart-only (progress s) usd b))
 decide-only (Framed room l) s usd h =
-    connected-holds (Only (s .address) (writeCount s)) Can s _
-    (λ o. rw (step-on Can Uart s 1 7 (λ e. omega arith) (rw or-comm at h) o, fails-false (on Uart s) (not-T (on Uart s) (λ q. one-carrier Uart Can s (λ e. omega arith) q o))) (can-only (progress s) usd (frameIn l)))
-    (λ q. record { holds = tt }) (record { holds = tt })
+    frame-in s usd 7 1 h (Only (s .address) (countOfBytes s)) room l (record { holds = tt })
+    (λ o. rw (fails-false (on Uart s) o) (can-only (progress s) usd (frameIn l)))
 
 -- ---- any call
 
@@ -170,7 +167,7 @@ module _ (p : State) (h : T (inWrite (p .session))) (a : Address) (n : T (not (i
       ≡ byteAt a (p .memories)
   unfolding perform
   kept-if i true f =
-      only-keeps (decide i (p .session) (p .memories .usd) .change) (p .session .address) (writeCount (p .session))
+      only-keeps (decide i (p .session) (p .memories .usd) .change) (p .session .address) (countOfBytes (p .session))
       (decide-only i (p .session) (p .memories .usd) h .holds) (stagedWith (progress (p .session)) (brings i)) (p .memories) (f tt) a n
   kept-if i false f = refl
 
@@ -180,5 +177,5 @@ module _ (p : State) (h : T (inWrite (p .session))) (a : Address) (n : T (not (i
   kept (Byte room b) = kept-if (Byte room b) (accepts (causeFor (Byte room b) p)) (accepted-proper (Byte room b) p tt)
   kept (Framed room l) = kept-if (Framed room l) (accepts (causeFor (Framed room l) p)) (accepted-proper (Framed room l) p tt)
 
-pub only-named-bytes : (i : Input) (p : State) → OnlyNamedBytes i p
-only-named-bytes i p = record { others = λ h a n. kept p h a n i }
+pub only-named-bytes : OnlyNamedBytes
+only-named-bytes i p h a n = kept p h a n i

@@ -1,21 +1,22 @@
 -- The club's failures, each as a statement that a mentor can read.
-use Prim.Native.Nat.{ℕ}
+use Prim.Native.Nat.{ℕ, _<_}
 use mathlib.Core.Path.{_≡_}
 use mathlib.Core.Bool.{Bool, true, false, not, _&&_, _||_}
 use mathlib.Core.List.{List, [], _∷_}
-use lib.ListN.{getD, take}
+use lib.ListN.{length, getD}
 use lib.Dec.{T, eqb}
+use Rattle.words.specs.Lists.{any, all}
 use Rattle.words.specs.Choice.{if_then_else_}
 use Rattle.words.specs.Over.{within}
 use Rattle.board.specs.Board.{address}
-use Rattle.board.specs.Quantities.{isSector, named, indexed}
+use Rattle.board.specs.Quantities.{isSector, named, firstIndexed, firstNumbered}
 use Rattle.board.specs.Regions.{placeOf}
-use Rattle.board.specs.Usd.{writeProtected}
+use Rattle.board.specs.Usd.{besideBits, protectionOn, writeProtected}
 use Rattle.board.specs.declared.Address.{Address}
 use Rattle.board.specs.declared.Place.{Place}
 use Rattle.board.specs.declared.Place.the-variants.{In, Nowhere}
 use Rattle.board.specs.declared.Sector.{Sector}
-use Rattle.memories.specs.Memories.{Memories, bytesOf}
+use Rattle.memories.specs.Memories.{Memories, bytesOf, proper}
 use Rattle.command.specs.Progress.{stagedWith}
 use Rattle.command.specs.Says.{says}
 use Rattle.command.specs.declared.Reply.{Reply}
@@ -26,10 +27,10 @@ use Rattle.can.specs.Steps as C
 use Rattle.can.specs.declared.Step as CS
 use Rattle.boot.specs.Session.{on, progress}
 use Rattle.boot.specs.Causes.{accepts}
-use Rattle.boot.specs.Calls.{State, Input, brings, commandsOf, sent, causeFor, call, run}
+use Rattle.boot.specs.Calls.{State, powered, Input, brings, commandsOf, sent, causeFor, call, done, run}
 use Rattle.boot.specs.declared.Carrier.the-variants.{Uart, Can}
 use Rattle.boot.specs.declared.Session.{Session}
-use Rattle.theorems.specs.Secrecy.{done, shut, veiled}
+use Rattle.theorems.specs.Secrecy.{shut, veiled}
 
 -- a session is on UART in a step, or on CAN in a step
 abbrev pub inUart : US.Step → Session → Bool
@@ -38,18 +39,36 @@ inUart s p = on Uart p && eqb (p .step) (U.stepNo s)
 abbrev pub inCan : CS.Step → Session → Bool
 inCan s p = on Can p && eqb (p .step) (C.stepNo s)
 
--- ---- (a) the padding of a last frame
+-- the X of a step that counts bytes, read back from what it expects
+abbrev pub countOfBytes : Session → ℕ
+countOfBytes s = if on Uart s then U.countIn (s .expected) else s .expected
+
+-- a reply is one ACK
+abbrev pub acks : Reply → Bool
+acks Silence = false
+acks Ack = true
+acks AckAck = false
+acks (Nack w) = false
+acks (AckNack w) = false
+acks Commands = false
+acks Version = false
+acks DeviceId = false
+acks (Data r at x) = false
+acks (Crc at n) = false
+
+-- the staged bytes, with those that an input brings among them
+abbrev pub stagedAfter : Input → Session → List ℕ
+stagedAfter i s = stagedWith (progress s) (brings i)
+
+-- ---- (a) the padding of a last frame was programmed
 
 -- a session gathers the data of a write
 abbrev pub inWrite : Session → Bool
 inWrite s = inUart US.Step.WriteData s || inCan CS.Step.WriteData s
 
--- the X bytes that the write names, from the session's address on
-abbrev pub writeCount : Session → ℕ
-writeCount s = if on Uart s then U.countIn (s .expected) else s .expected
-
+-- an address is one of the X that the write names, from the session's address on
 abbrev pub isNamed : Session → Address → Bool
-isNamed s a = within (s .address) (writeCount s) (a .0)
+isNamed s a = within (s .address) (countOfBytes s) (a .0)
 
 -- the byte at an address
 abbrev pub byteIn : Place → Memories → ℕ
@@ -60,11 +79,12 @@ abbrev pub byteAt : Address → Memories → ℕ
 byteAt a m = byteIn (placeOf a 1) m
 
 -- whatever comes in while a write gathers its data, no byte changes but the X that it names
-pub record OnlyNamedBytes (i : Input) (p : State) : Type 0 where
-  pub others : T (inWrite (p .session)) → (a : Address) → T (not (isNamed (p .session) a))
-      → byteAt a (call i p .state .memories) ≡ byteAt a (p .memories)
+abbrev pub OnlyNamedBytes : Type 0
+OnlyNamedBytes =
+    (i : Input) (p : State) → T (inWrite (p .session)) → (a : Address) → T (not (isNamed (p .session) a))
+    → byteAt a (call i p .state .memories) ≡ byteAt a (p .memories)
 
--- ---- (b) half a list erased
+-- ---- (b) half a list was erased before a bad number refused it
 
 -- a reply refuses
 abbrev pub refuses : Reply → Bool
@@ -93,13 +113,26 @@ unfoldable pub erasePending : List Input → State → Bool
 erasePending [] p = true
 erasePending (i ∷ is) p = inErase (call i p .state .session) && erasePending is (call i p .state)
 
+-- a session gathers the numbers of an erase; the sectors that they name
+abbrev pub inEraseList : Session → Bool
+inEraseList s = inUart US.Step.EraseList s || inCan CS.Step.EraseList s
+
+abbrev pub toErase : Input → Session → List Sector
+toErase i s = firstNumbered (if on Uart s then U.numbersIn (s .expected) else C.numbersIn (s .expected)) (stagedAfter i s)
+
 pub record EraseAllOrNothing : Type 0 where
   -- a refusal of any command, at any point, leaves every byte of every memory
-  pub refused : (i : Input) (p : State) → T (isRefused i p) → call i p .state .memories ≡ p .memories
+  pub refusal : (i : Input) (p : State) → T (isRefused i p) → call i p .state .memories ≡ p .memories
   -- while an erase is still coming in, every byte of every memory stays
   pub pending : (is : List Input) (p : State) → T (erasePending is p) → run is p .memories ≡ p .memories
+  -- so an erase that is refused in the end has changed nothing from its beginning
+  pub together : (is : List Input) (i : Input) (p : State) → T (erasePending is p) → T (isRefused i (run is p))
+      → call i (run is p) .state .memories ≡ p .memories
+  -- and a list that is accepted holds only sectors of the board, none of them write-protected
+  pub accepted : (i : Input) (p : State) → T (inEraseList (p .session)) → T (acks (done i p .reply))
+      → T (all isSector (toErase i (p .session))) × T (not (any (writeProtected (p .memories .usd)) (toErase i (p .session))))
 
--- ---- (c) a locked board that was read
+-- ---- (c) a locked board was read
 
 -- a reply holds bytes of a memory
 abbrev pub reads : Reply → Bool
@@ -114,42 +147,43 @@ reads DeviceId = false
 reads (Data r at x) = true
 reads (Crc at n) = false
 
--- on a board freshly powered and locked, before an obeyed Access Unprotect
-pub record NeverRead (p : State) : Type 0 where
+-- what would be sent with other memories in place of a board's own
+abbrev pub sentWith : Memories → Input → State → List ℕ
+sentWith m i p = sent i (p .session) (says (commandsOf i) (done i p .reply) m)
+
+-- of a board, before an obeyed Access Unprotect
+pub record Unread (p : State) : Type 0 where
   -- no input is decided to read
-  pub reads : (is : List Input) (i : Input) → T (shut is p) → T (not (reads (done i (run is p) .reply)))
+  pub never : (is : List Input) (i : Input) → T (shut is p) → T (not (reads (done i (run is p) .reply)))
   -- and what is sent is the same for any memories, but for a CRC value
-  pub silent : (is : List Input) (i : Input) → T (shut is p) → (m n : Memories)
-      → veiled i (done i (run is p) .reply) (sent i (run is p .session) (says (commandsOf i) (done i (run is p) .reply) m))
-      ≡ veiled i (done i (run is p) .reply) (sent i (run is p .session) (says (commandsOf i) (done i (run is p) .reply) n))
+  pub blind : (is : List Input) (i : Input) → T (shut is p) → (m n : Memories)
+      → veiled i (done i (run is p) .reply) (sentWith m i (run is p)) ≡ veiled i (done i (run is p) .reply) (sentWith n i (run is p))
 
--- ---- (d) which sectors are protected
+-- a board that is locked when it is powered on
+abbrev pub NeverRead : Type 0
+NeverRead = (m : Memories) → T (proper m) → T (protectionOn (m .usd)) → Unread (powered m)
 
--- a session gathers the indexes of 0x63
+-- ---- (d) other sectors than the named ones were protected
+
+-- a session gathers the indexes of 0x63; the sectors that they name
 abbrev pub inProtect : Session → Bool
 inProtect s = inUart US.Step.ProtectList s || inCan CS.Step.ProtectList s
 
--- the X indexes, with those that the input brings
-abbrev pub protectCount : Session → ℕ
-protectCount s = if on Uart s then U.countIn (s .expected) else s .expected
+abbrev pub toProtect : Input → Session → List Sector
+toProtect i s = firstIndexed (countOfBytes s) (stagedAfter i s)
 
-abbrev pub indexes : Input → Session → List Sector
-indexes i s = indexed (take (protectCount s) (stagedWith (progress s) (brings i)))
+-- what an accepted list leaves of the memories
+pub record Protects (ks : List Sector) (m n : Memories) : Type 0 where
+  -- a sector is write-protected exactly if it is named
+  pub exactly : (k : Sector) → T (isSector k) → writeProtected (n .usd) k ≡ named ks k
+  -- only sectors of the board are named
+  pub sectors : T (all isSector ks)
+  -- and nothing else changes
+  pub others : (i : ℕ) → i < length (m .usd) → T (besideBits i) → getD (n .usd) i 0 ≡ getD (m .usd) i 0
+  pub flash : n .flash ≡ m .flash
+  pub sram : n .sram ≡ m .sram
 
--- a reply accepts
-abbrev pub acks : Reply → Bool
-acks Silence = false
-acks Ack = true
-acks AckAck = false
-acks (Nack w) = false
-acks (AckNack w) = false
-acks Commands = false
-acks Version = false
-acks DeviceId = false
-acks (Data r at x) = false
-acks (Crc at n) = false
-
--- once the list is accepted, a sector is write-protected exactly if it is named
-pub record ExactlyNamed (i : Input) (p : State) : Type 0 where
-  pub protected : T (inProtect (p .session)) → T (acks (done i p .reply)) → (k : Sector) → T (isSector k)
-      → writeProtected (call i p .state .memories .usd) k ≡ named (indexes i (p .session)) k
+abbrev pub ExactlyNamed : Type 0
+ExactlyNamed =
+    (i : Input) (p : State) → T (inProtect (p .session)) → T (acks (done i p .reply))
+    → Protects (toProtect i (p .session)) (p .memories) (call i p .state .memories)

@@ -6,22 +6,16 @@ use mathlib.Core.List.{List, [], _∷_}
 use lib.ListN.{replicate}
 use lib.Dec.{T}
 use Rattle.words.specs.Over.{put}
+use Rattle.board.specs.Usd.{protectionOn}
+use Rattle.memories.specs.Memories.{Memories, proper}
 use Rattle.memories.specs.declared.Change.{Change}
 use Rattle.memories.specs.declared.Change.the-variants.{Nothing, Write, EraseAll, EraseSectors, ProtectOnly, Release, Lock, Unlock}
-use Rattle.command.specs.Decision.{if_gives_else_, answer}
-use Rattle.command.specs.declared.Decision.{Decision}
-use Rattle.command.specs.declared.Next.the-variants.{Stay}
 use Rattle.command.specs.declared.Reply.{Reply}
 use Rattle.command.specs.declared.Reply.the-variants.{Silence, Ack, AckAck, Nack, AckNack, Commands, Version, DeviceId, Data, Crc}
 use Rattle.can.specs.Frames.{classic, headBytes}
-use Rattle.boot.specs.Causes.{accepts}
-use Rattle.boot.specs.Calls.{State, Input, Power, Byte, Framed, causeFor, decide, call, outcomes, run}
+use Rattle.boot.specs.Calls.{State, powered, Input, Power, Byte, Framed, done, call, outcomes, run}
 use Rattle.boot.specs.declared.Cause.{Cause}
 use Rattle.boot.specs.declared.Session.{Session}
-
--- what comes of an input is decided; a refused one does nothing
-unfoldable pub done : Input → State → Decision
-done i p = if accepts (causeFor i p) gives decide i (p .session) (p .memories .usd) else answer Silence Stay
 
 -- ---- an obeyed Access Unprotect
 
@@ -46,7 +40,11 @@ shut (i ∷ is) p = not (opens i p) && shut is (call i p .state)
 
 -- ---- what is seen of a board
 
--- where the four value bytes of a Firmware CRC answer stand: behind the ACK, which on CAN is a frame, and the frame's head
+-- how many bytes a CRC value has
+abbrev pub valueBytes : ℕ
+valueBytes = 4
+
+-- where the value bytes of a Firmware CRC answer stand: behind the ACK, which on CAN is a frame, and the frame's head
 abbrev pub valueAt : Input → ℕ
 valueAt Power = 0
 valueAt (Byte room b) = 1
@@ -63,7 +61,7 @@ veiled i Commands l = l
 veiled i Version l = l
 veiled i DeviceId l = l
 veiled i (Data r at x) l = l
-veiled i (Crc at n) l = put l (valueAt i) (replicate 4 0)
+veiled i (Crc at n) l = put l (valueAt i) (replicate valueBytes 0)
 
 -- all that a call gives back and leaves, but for flash, SRAM and a CRC value
 pub record Seen : Type 0 where
@@ -96,8 +94,12 @@ pub record Alike (is : List Input) (p q : State) : Type 0 where
 pub record Secret (p q : State) : Type 0 where
   -- up to the first obeyed Access Unprotect
   pub before : (is : List Input) → T (shut is p) → Alike is p q
-  -- which is the same input for both
-  pub opening : (is : List Input) (i : Input) → T (shut is p) → opens i (run is p) ≡ opens i (run is q)
+  -- the next input is decided alike, so that it is the same one for both
+  pub decided : (is : List Input) (i : Input) → T (shut is p) → done i (run is p) ≡ done i (run is q)
   -- and from it on every outcome is the same, memories and CRC values too
   pub after : (is : List Input) (i : Input) (js : List Input) → T (shut is p) → T (opens i (run is p))
       → outcomes (i ∷ js) (run is p) ≡ outcomes (i ∷ js) (run is q)
+
+-- demand 3, of any two boards freshly powered, locked, with memories of their proper sizes and alike in user system data
+abbrev pub Demand3 : Type 0
+Demand3 = (m n : Memories) → T (proper m) → T (proper n) → m .usd ≡ n .usd → T (protectionOn (m .usd)) → Secret (powered m) (powered n)

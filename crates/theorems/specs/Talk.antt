@@ -1,53 +1,59 @@
 -- The worked talk of document 01: the starred rows, in the paper's hex.
 use Prim.Native.Nat.{ℕ}
 use Prim.Native.String.{String}
+use mathlib.Core.Path.{_≡_}
 use mathlib.Core.List.{List, [], _∷_, _++_, map}
 use lib.ListN.{replicate, set}
 use Rattle.words.specs.Hex.{hex}
 use Rattle.words.specs.Lists.{join, part}
 use Rattle.board.specs.Board as B
-use Rattle.board.specs.declared.Region.the-variants.{Usd}
-use Rattle.memories.specs.Memories.{Memories, withBytes, freshUsd, freshMemories}
+use Rattle.board.specs.declared.Region.the-variants.{Flash, Usd}
+use Rattle.memories.specs.Memories.{Memories, memories, withBytes, freshUsd, freshMemories}
 use Rattle.boot.specs.Causes as BC
 use Rattle.boot.specs.Calls.{State, powered, Input, Byte, Framed, Outcome, outcomes, run}
 
 -- ---- boards
 
--- the fresh board, and the same with other user system data
+-- the fresh board
 abbrev pub freshBoard : State
 freshBoard = powered freshMemories
 
-abbrev pub boardWith : List ℕ → State
-boardWith usd = powered (withBytes Usd usd freshMemories)
-
--- with sector 1 write-protected
+-- the same with sector 1 write-protected
 abbrev pub sectorOneProtected : State
-sectorOneProtected = boardWith (set freshUsd 8 0xFD)
+sectorOneProtected = powered (withBytes Usd (set freshUsd 8 0xFD) freshMemories)
 
--- a locked board whose flash and SRAM are not blank, so that a wipe is seen
+-- the same with every byte of flash 0x5A, so that an erase is seen
+abbrev pub loadedBoard : State
+loadedBoard = powered (withBytes Flash (replicate (B.flash .bytes) 0x5A) freshMemories)
+
+-- a locked board with nothing blank, so that a wipe is seen
+abbrev pub lockedUsd : List ℕ
+lockedUsd = replicate (B.usd .bytes) 0x3C
+
 abbrev pub lockedBoard : State
-lockedBoard = powered (record {
-  flash = replicate (B.flash .bytes) 0x5A;
-  sram = replicate (B.sram .bytes) 0xC3;
-  usd = replicate (B.usd .bytes) 0xFF;
-})
+lockedBoard = powered (memories (replicate (B.flash .bytes) 0x5A) (replicate (B.sram .bytes) 0xC3) lockedUsd)
 
--- ---- what is sent
+-- ---- what is sent, and what is answered
+
+-- inputs, and the bytes of their replies, one behind the other
+pub record Exchange : Type 0 where
+  pub inputs : List Input
+  pub answered : List ℕ
 
 -- bytes on UART, each with the room it needs
-abbrev pub uart : String → List Input
-uart t = map (Byte BC.uartRoom) (hex t)
+abbrev pub uart : String → String → Exchange
+uart sent answered = record { inputs = map (Byte BC.uartRoom) (hex sent); answered = hex answered }
 
 -- a frame on CAN, in eleven bytes
-abbrev pub can : String → List Input
-can t = Framed BC.canRoom (hex t) ∷ []
+abbrev pub can : String → String → Exchange
+can sent answered = record { inputs = Framed BC.canRoom (hex sent) ∷ []; answered = hex answered }
 
 -- the calls to connect
-abbrev pub connectUart : List Input
-connectUart = uart "7F"
+abbrev pub connectUart : Exchange
+connectUart = uart "7F" "79"
 
-abbrev pub connectCan : List Input
-connectCan = can "00 79 00 00 00 00 00 00 00 00 00"
+abbrev pub connectCan : Exchange
+connectCan = can "00 79 00 00 00 00 00 00 00 00 00" "00 79 01 79 00 00 00 00 00 00 00"
 
 -- ---- what is seen afterwards
 
@@ -55,79 +61,104 @@ connectCan = can "00 79 00 00 00 00 00 00 00 00 00"
 abbrev pub nothing : Memories → List ℕ
 nothing m = []
 
--- bytes of flash, and of user system data
+-- the whole flash, bytes of it, and bytes of user system data
+abbrev pub wholeFlash : Memories → List ℕ
+wholeFlash m = m .flash
+
 abbrev pub flashAt : ℕ → ℕ → Memories → List ℕ
 flashAt at n m = part at n (m .flash)
 
 abbrev pub usdAt : ℕ → ℕ → Memories → List ℕ
 usdAt at n m = part at n (m .usd)
 
--- the whole flash, the whole SRAM and USD byte 0
+-- every byte of every memory
 abbrev pub everything : Memories → List ℕ
-everything m = m .flash ++ m .sram ++ part 0 1 (m .usd)
+everything m = m .flash ++ m .sram ++ m .usd
 
+-- the whole flash 0xFF, SRAM 0 and USD byte 0 A5
 abbrev pub wipedClean : List ℕ
-wipedClean = replicate (B.flash .bytes) 0xFF ++ replicate (B.sram .bytes) 0 ++ hex "A5"
+wipedClean = replicate (B.flash .bytes) 0xFF ++ replicate (B.sram .bytes) 0 ++ set lockedUsd 0 0xA5
 
 -- ---- rows
 
--- on a board, after some inputs, others are answered, and then something is seen
+-- on a board these exchanges take place, and then something is seen
 pub record Talk : Type 0 where
   pub board : State
-  pub before : List Input
-  pub inputs : List Input
-  pub answered : List ℕ
+  pub exchanges : List Exchange
   pub look : Memories → List ℕ
   pub seen : List ℕ
 
 -- a row in which the memories are looked at
-abbrev pub shows : State → List Input → List Input → String → (Memories → List ℕ) → List ℕ → Talk
-shows board before inputs answered look seen = record {
-  board = board;
-  before = before;
-  inputs = inputs;
-  answered = hex answered;
-  look = look;
-  seen = seen;
-}
+abbrev pub shows : State → List Exchange → (Memories → List ℕ) → List ℕ → Talk
+shows board exchanges look seen = record { board = board; exchanges = exchanges; look = look; seen = seen }
 
 -- a row of answers
-abbrev pub answers : State → List Input → List Input → String → Talk
-answers board before inputs answered = shows board before inputs answered nothing []
+abbrev pub answers : State → List Exchange → Talk
+answers board exchanges = shows board exchanges nothing []
 
--- what is answered and seen
+-- what is answered to each exchange, and seen
 pub record Heard : Type 0 where
-  pub answered : List ℕ
+  pub answered : List (List ℕ)
   pub seen : List ℕ
 
 -- as the paper has it
 abbrev pub paper : Talk → Heard
-paper t = record { answered = t .answered; seen = t .seen }
+paper t = record { answered = map (λ (e : Exchange). e .answered) (t .exchanges); seen = t .seen }
 
 -- as the definitions have it
+unfoldable pub replies : List Exchange → State → List (List ℕ)
+replies [] p = []
+replies (e ∷ es) p = join (map (λ (o : Outcome). o .reply) (outcomes (e .inputs) p)) ∷ replies es (run (e .inputs) p)
+
+unfoldable pub ends : List Exchange → State → State
+ends [] p = p
+ends (e ∷ es) p = ends es (run (e .inputs) p)
+
 unfoldable pub board : Talk → Heard
-board t = record {
-  answered = join (map (λ (o : Outcome). o .reply) (outcomes (t .inputs) (run (t .before) (t .board))));
-  seen = t .look (run (t .inputs) (run (t .before) (t .board)) .memories);
-}
+board t = record { answered = replies (t .exchanges) (t .board); seen = t .look (ends (t .exchanges) (t .board) .memories) }
 
 -- the starred rows
 abbrev pub starred : List Talk
 starred =
-    answers freshBoard [] (uart "7F") "79"
-    ∷ answers freshBoard connectUart (uart "00 FF") "79 0E 20 00 01 02 11 21 31 44 63 73 82 92 AC D4 79"
-    ∷ answers freshBoard connectUart (uart "02 FD") "79 04 56 78 12 34 5A 79"
-    ∷ answers freshBoard connectUart (uart "01 FF") "1F"
-    ∷ answers freshBoard connectUart (uart "11 EE 08 00 00 00 08 03 FC") "79 79 79 FF FF FF FF"
-    ∷ shows freshBoard connectUart (uart "31 CE 08 00 03 FF F4 01 AA 0F A4") "79 79 79" (flashAt 1023 2) (hex "AA 0F")
-    ∷ shows sectorOneProtected connectUart (uart "31 CE 08 00 03 FF F4 01 AA 0F A4") "79 79 1F" (flashAt 1023 2) (hex "FF FF")
-    ∷ shows freshBoard connectUart (uart "31 CE 08 00 7F FF 88 00 12 12") "79 79 79" (flashAt 32767 1) (hex "12")
-    ∷ shows freshBoard connectUart (uart "31 CE 08 00 7F FF 88 01 12 34 27") "79 79 1F" (flashAt 32767 1) (hex "FF")
-    ∷ shows freshBoard (connectUart ++ uart "31 CE 08 00 00 00 08 00 F0 F0") (uart "31 CE 08 00 00 00 08 00 3C 3C") "79 79 79" (flashAt 0 1) (hex "30")
-    ∷ shows freshBoard connectUart (uart "63 9C 01 00 1F 1E") "79 79" (usdAt 8 4) (hex "FE FF FF 7F")
-    ∷ shows freshBoard (connectUart ++ uart "63 9C 01 00 1F 1E" ++ connectUart) (uart "63 9C 00 03 03") "79 79" (usdAt 8 4) (hex "F7 FF FF FF")
-    ∷ answers freshBoard connectUart (uart "44 BB 00 00 00 20 20") "79 1F"
-    ∷ shows freshBoard connectCan (can "00 31 05 08 00 00 00 02 00 00 00" ++ can "00 31 08 01 02 03 04 05 06 07 08") "00 31 01 79 00 00 00 00 00 00 00 00 31 01 79 00 00 00 00 00 00 00" (flashAt 0 4) (hex "01 02 03 FF")
-    ∷ answers lockedBoard connectUart (uart "11 EE") "1F"
-    ∷ shows lockedBoard connectUart (uart "92 6D") "79 79" everything wipedClean
+    answers freshBoard (connectUart ∷ [])
+    ∷ answers freshBoard (connectUart ∷ uart "00 FF" "79 0E 20 00 01 02 11 21 31 44 63 73 82 92 AC D4 79" ∷ [])
+    ∷ answers freshBoard (connectUart ∷ uart "02 FD" "79 04 56 78 12 34 5A 79" ∷ [])
+    ∷ answers freshBoard (connectUart ∷ uart "01 FF" "1F" ∷ [])
+    ∷ answers freshBoard
+    (connectUart ∷ uart "11 EE" "79" ∷ uart "08 00 00 00 08" "79" ∷ uart "03 FC" "79 FF FF FF FF" ∷ [])
+    ∷ shows freshBoard
+    (connectUart ∷ uart "31 CE" "79" ∷ uart "08 00 03 FF F4" "79" ∷ uart "01 AA 0F A4" "79" ∷ [])
+    (flashAt 1022 4) (hex "FF AA 0F FF")
+    ∷ shows sectorOneProtected
+    (connectUart ∷ uart "31 CE" "79" ∷ uart "08 00 03 FF F4" "79" ∷ uart "01 AA 0F A4" "1F" ∷ [])
+    (flashAt 1022 4) (hex "FF FF FF FF")
+    ∷ shows freshBoard
+    (connectUart ∷ uart "31 CE" "79" ∷ uart "08 00 7F FF 88" "79" ∷ uart "00 12 12" "79" ∷ [])
+    (flashAt 32766 2) (hex "FF 12")
+    ∷ shows freshBoard
+    (connectUart ∷ uart "31 CE" "79" ∷ uart "08 00 7F FF 88" "79" ∷ uart "01 12 34 27" "1F" ∷ [])
+    (flashAt 32766 2) (hex "FF FF")
+    ∷ shows freshBoard
+    (connectUart ∷ uart "31 CE 08 00 00 00 08 00 F0 F0" "79 79 79" ∷ uart "31 CE 08 00 00 00 08 00 3C 3C" "79 79 79" ∷ [])
+    (flashAt 0 2) (hex "30 FF")
+    ∷ shows freshBoard
+    (connectUart ∷ uart "63 9C" "79" ∷ uart "01 00 1F 1E" "79" ∷ [])
+    (usdAt 7 6) (hex "FF FE FF FF 7F FF")
+    ∷ shows freshBoard
+    (connectUart ∷ uart "63 9C 01 00 1F 1E" "79 79" ∷ connectUart ∷ uart "63 9C" "79" ∷ uart "00 03 03" "79" ∷ [])
+    (usdAt 7 6) (hex "FF F7 FF FF FF FF")
+    ∷ shows loadedBoard
+    (connectUart ∷ uart "44 BB" "79" ∷ uart "00 00 00 20 20" "1F" ∷ [])
+    wholeFlash (replicate (B.flash .bytes) 0x5A)
+    ∷ shows freshBoard
+    (connectCan
+    ∷ can "00 31 05 08 00 00 00 02 00 00 00" "00 31 01 79 00 00 00 00 00 00 00"
+    ∷ can "00 31 08 01 02 03 04 05 06 07 08" "00 31 01 79 00 00 00 00 00 00 00" ∷ [])
+    (flashAt 0 9) (hex "01 02 03 FF FF FF FF FF FF")
+    ∷ answers lockedBoard (connectUart ∷ uart "11 EE" "1F" ∷ [])
+    ∷ shows lockedBoard (connectUart ∷ uart "92 6D" "79 79" ∷ []) everything wipedClean
     ∷ []
+
+-- every row is answered and seen as the paper has it
+abbrev pub WorkedTalk : Type 0
+WorkedTalk = map board starred ≡ map paper starred

@@ -40,15 +40,23 @@ commandBytes = (length uartCommands + 1) ∷ identity .version ∷ map code uart
 abbrev pub complemented : List ℕ → Bool
 complemented bytes = eqb (getD bytes 1 0) (complement (getD bytes 0 0))
 
--- the checksum is the XOR of the bytes that it is over
-abbrev pub sums : List ℕ → ℕ → Bool
-sums bytes checksum = eqb checksum (xorAll bytes)
+-- a checksum is the XOR of the bytes that it is over
+abbrev pub checks : List ℕ → ℕ → Bool
+checks bytes checksum = eqb checksum (xorAll bytes)
+
+-- X - 1, X bytes and XOR of all of these, X - 1 having come before
+abbrev pub checksCounted : ℕ → List ℕ → Bool
+checksCounted x bytes = checks (oneLess x .0 ∷ take x bytes) (getD bytes x 0)
 
 -- ACK, and a step is entered
 abbrev pub goOn : Step → ℕ → Decision
 goOn s e = answer Ack (Enter (stepNo s) e)
 
--- the command's ACK, with what it asks for
+-- a byte X - 1 has come, and a step for X bytes and their checksum is entered
+abbrev pub awaits : Step → List ℕ → Decision
+awaits s bytes = answer Silence (Enter (stepNo s) (expectedFor (countOf (lessOne (getD bytes 0 0)))))
+
+-- the command's ACK, with what it asks for; 0x03 is not in the list of UART
 unfoldable pub obeyed : Command → Decision
 obeyed GetCommands = telling Commands
 obeyed GetVersion = telling Version
@@ -73,7 +81,7 @@ commanded usd Unknown = nack UnknownCommand
 -- an address and the XOR of its four bytes
 unfoldable pub addressed : (Address → Decision) → List ℕ → Decision
 addressed go bytes =
-    if sums (take 4 bytes) (getD bytes 4 0) gives go (address (number (take 4 bytes)))
+    if checks (take 4 bytes) (getD bytes 4 0) gives go (address (number (take 4 bytes)))
     else nack BadChecksum
 
 -- an address that passes a test is kept, and a step is entered
@@ -96,28 +104,22 @@ complete WriteAddress e a bytes usd = addressed (keptIf known WriteLength oneByt
 complete CrcAddress e a bytes usd = addressed (keptIf sectorStart CrcCount checkedCount) bytes
 complete ReadLength e a bytes usd =
     if complemented bytes gives reading (address a) (countOf (lessOne (getD bytes 0 0))) else nack BadChecksum
-complete WriteLength e a bytes usd =
-    answer Silence (Enter (stepNo WriteData) (expectedFor (countOf (lessOne (getD bytes 0 0)))))
+complete WriteLength e a bytes usd = awaits WriteData bytes
 complete WriteData e a bytes usd =
-    if sums (oneLess (countIn e) .0 ∷ take (countIn e) bytes) (getD bytes (countIn e) 0)
-    gives writing usd (address a) (countIn e)
-    else nack BadChecksum
-complete EraseSelector e a bytes usd = selected (selectorOf (number (take 2 bytes)))
+    if checksCounted (countIn e) bytes gives writing usd (address a) (countIn e) else nack BadChecksum
+complete EraseSelector e a bytes usd = selected (selectorOf (number (take selectorBytes bytes)))
 complete SpecialCheck e a bytes usd =
-    if sums (twoBytes a) (getD bytes 0 0) gives judged (eraseAllVerdict usd a) (alter Ack EraseAll GoIdle)
+    if checks (twoBytes a) (getD bytes 0 0) gives judged (eraseAllVerdict usd a) (alter Ack EraseAll GoIdle)
     else nack BadChecksum
 complete EraseList e a bytes usd =
-    if sums (twoBytes (oneLess (numbersIn e) .0) ++ take (2 * numbersIn e) bytes) (getD bytes (2 * numbersIn e) 0)
+    if checks (twoBytes (oneLess (numbersIn e) .0) ++ take (2 * numbersIn e) bytes) (getD bytes (2 * numbersIn e) 0)
     gives erasing usd bytes (numbersIn e)
     else nack BadChecksum
-complete ProtectLength e a bytes usd =
-    answer Silence (Enter (stepNo ProtectList) (expectedFor (countOf (lessOne (getD bytes 0 0)))))
+complete ProtectLength e a bytes usd = awaits ProtectList bytes
 complete ProtectList e a bytes usd =
-    if sums (oneLess (countIn e) .0 ∷ take (countIn e) bytes) (getD bytes (countIn e) 0)
-    gives protecting bytes (countIn e)
-    else nack BadChecksum
+    if checksCounted (countIn e) bytes gives protecting bytes (countIn e) else nack BadChecksum
 complete CrcCount e a bytes usd =
-    if sums (0xFF ∷ take 2 bytes) (getD bytes 2 0) gives summing (address a) (countOf (lessOne (number (take 2 bytes))))
+    if checks (0xFF ∷ take 2 bytes) (getD bytes 2 0) gives summing (address a) (countOf (lessOne (number (take 2 bytes))))
     else nack BadChecksum
 
 -- one byte of a connected host: gathered, or the last of its step

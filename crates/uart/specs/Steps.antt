@@ -4,6 +4,8 @@ use mathlib.Core.Bool.{Bool, _&&_}
 use mathlib.Core.List.{List, [], _∷_}
 use lib.ListN.{getD}
 use lib.Dec.{eqb, leb}
+use Rattle.board.specs.Board.{sectors}
+use Rattle.memories.specs.Effects.{largestCount}
 use Rattle.uart.specs.declared.Step.{Step}
 use Rattle.uart.specs.declared.Step.the-variants.{Idle, ReadAddress, JumpAddress, WriteAddress, CrcAddress, ReadLength, WriteLength, WriteData, EraseSelector, SpecialCheck, EraseList, ProtectLength, ProtectList, CrcCount}
 
@@ -73,10 +75,10 @@ expects WriteAddress e = eqb e checkedAddress
 expects CrcAddress e = eqb e checkedAddress
 expects ReadLength e = eqb e complementedByte
 expects WriteLength e = eqb e oneByte
-expects WriteData e = leb (expectedFor 1) e && leb e (expectedFor 256)
+expects WriteData e = leb (expectedFor 1) e && leb e (expectedFor largestCount)
 expects EraseSelector e = eqb e selectorBytes
 expects SpecialCheck e = eqb e oneByte
-expects EraseList e = leb (expectedForNumbers 1) e && leb e (expectedForNumbers 32) && eqb (e % 2) 1
+expects EraseList e = leb (expectedForNumbers 1) e && leb e (expectedForNumbers (sectors .count)) && eqb (e % 2) 1
 expects ProtectLength e = eqb e oneByte
-expects ProtectList e = leb (expectedFor 1) e && leb e (expectedFor 256)
+expects ProtectList e = leb (expectedFor 1) e && leb e (expectedFor largestCount)
 expects CrcCount e = eqb e checkedCount

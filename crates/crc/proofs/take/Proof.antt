@@ -3,12 +3,12 @@ use borrow.Author.Needs.{needs}
 use native.Mathlib.Omega.{arith}
 use Prim.Native.Nat.{_*_, _%_, _^_}
 use mathlib.Core.Path.{_≡_}
-use Rattle.crc.specs.Crc.{taken}
+use Rattle.crc.specs.Crc.{fed}
 use Rattle.crc.proofs.take.Statement.{statement}
 use Rattle.crc.proofs.take.Tie as tie
 
 pub take-spec : {M : Type 1} → statement M
-unfolding taken
+unfolding fed
 take-spec =
     tie.close
     (tie.spec

@@ -5,7 +5,7 @@ use Rattle.board.specs.declared.Region.the-variants.{Flash, Usd}
 use Rattle.memories.specs.Memories.{memories}
 use Rattle.memories.specs.Effects.{erasedAll, effect}
 use Rattle.memories.proofs.Memories.{proper-length}
-use Rattle.memories.proofs.Possible.{write-fits, erase-fits, protect-fits}
+use Rattle.memories.proofs.Fits.{write-fits, erase-fits, protect-fits}
 use Rattle.memories.proofs.carry_out.Statement.{statement}
 use Rattle.memories.proofs.carry_out.Tie as tie
 

@@ -4,13 +4,13 @@ use native.Mathlib.Omega.{arith}
 use mathlib.Core.Path.{sym, _∙_}
 use Rattle.board.specs.declared.Region.the-variants.{Flash, Sram, Usd}
 use Rattle.memories.specs.Memories.{memories}
-use Rattle.memories.specs.Effects.{wiped, effect}
+use Rattle.memories.specs.Effects.{erasedAll, wiped, effect}
 use Rattle.memories.proofs.Memories.{proper-length}
 use Rattle.memories.proofs.unlock.Statement.{statement}
 use Rattle.memories.proofs.unlock.Tie as tie
 
 pub unlock-spec : {M : Type 1} → statement M
-unfolding effect wiped
+unfolding effect wiped erasedAll
 unlock-spec =
     tie.close
     (tie.spec

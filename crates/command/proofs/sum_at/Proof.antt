@@ -1,0 +1,24 @@
+-- By the region of the place.
+use borrow.Author.Needs.{needs}
+use Rattle.command.specs.Rules.{sumAt}
+use Rattle.command.proofs.sum_at.Statement.{statement}
+use Rattle.command.proofs.sum_at.Tie as tie
+
+pub sum-at-spec : {M : Type 1} → statement M
+unfolding sumAt
+sum-at-spec =
+    tie.close
+    (tie.spec
+    (λ c. search needs)
+    (λ c. search needs)
+    (λ c κs. search needs)
+    (λ c. search needs)
+    (λ c κs. search needs)
+    (λ c. search needs)
+    (λ c κs. search needs)
+    (λ c. search needs)
+    (λ c κs. search needs)
+    (λ c. rw (c .before .before .before .before .place .given .1, c .before .enum-told .given .1) (c .answer .ensures))
+    (λ c. rw (c .before .before .before .before .place .given .1, c .before .enum-told2 .given .1) (c .nack .ensures))
+    (λ c. rw (c .before .before .before .before .place .given .1, c .before .enum-told3 .given .1) (c .nack2 .ensures))
+    (λ c. rw (c .before .enum-told4 .given .1) (c .nack3 .ensures)))
