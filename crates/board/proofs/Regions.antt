@@ -2,6 +2,7 @@
 use mathlib.Core.Path.{_≡_, refl, subst}
 use mathlib.Core.Bool.{Bool, true, false}
 use Prim.Native.Nat.{ℕ, _+_, _≤_}
+use native.Mathlib.Omega.{arith}
 use lib.Dec.{T, leb, leb→le}
 use Rattle.words.specs.Choice.{if_then_else_}
 use Rattle.words.proofs.Tests.{both-left, both-right}
@@ -47,3 +48,7 @@ means a x = by-tests (holds flash a x) (held a x Flash) (holds sram a x) (held a
 -- the place of some bytes says where they lie
 pub lies : (a : Address) (x : ℕ) (r : Region) (at : ℕ) → placeOf a x ≡ In r at → Lies a x r at
 lies a x r at e = subst (Means a x) e (means a x)
+
+-- and the region has room for them there
+pub room : (a : Address) (x : ℕ) (r : Region) (at : ℕ) → placeOf a x ≡ In r at → at + x ≤ extentOf r .bytes
+room a x r at e = let l = lies a x r at e in omega (arith, l .from, l .to, l .offset)

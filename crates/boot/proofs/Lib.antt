@@ -1,2 +1,6 @@
 pub mod Numbers
 pub mod Sessions
+pub mod Sound
+pub mod Good
+pub mod Accept
+pub mod Causes

@@ -5,7 +5,7 @@ use Prim.Native.Nat.{ℕ}
 use lib.ListN.{take, replicate}
 use Rattle.command.specs.declared.Next.{Next}
 use Rattle.command.specs.declared.Next.the-variants.{Stay, Reset, Gather, GoIdle, SetSpeed, Enter, EnterAt, Run}
-use Rattle.boot.specs.Session.{fresh, after}
+use Rattle.boot.specs.Session.{fresh, gathered, after}
 use Rattle.boot.specs.declared.Carrier.the-variants.{Uart, Can}
 use Rattle.boot.specs.declared.Session.{Session}
 
@@ -28,12 +28,12 @@ midWrite = record {
 
 -- what a frame of three bytes makes of it
 abbrev follows : Next → List ℕ
-follows n = numbers (after Can (0x0F ∷ 0x55 ∷ 0x77 ∷ []) n midWrite)
+follows n = numbers (after Can (gathered (0x0F ∷ 0x55 ∷ 0x77 ∷ []) midWrite) n midWrite)
 
 pub power-on : numbers fresh ≡ 0 ∷ 0 ∷ 0 ∷ 1 ∷ 0 ∷ 2 ∷ 0 ∷ 0 ∷ 0 ∷ 0 ∷ []
 power-on = refl
 
-pub connected : numbers (after Uart [] GoIdle fresh) ≡ 1 ∷ 0 ∷ 0 ∷ 2 ∷ 0 ∷ 2 ∷ 0 ∷ 0 ∷ 0 ∷ 0 ∷ []
+pub connected : numbers (after Uart fresh GoIdle fresh) ≡ 1 ∷ 0 ∷ 0 ∷ 2 ∷ 0 ∷ 2 ∷ 0 ∷ 0 ∷ 0 ∷ 0 ∷ []
 unfolding after
 connected = refl
 

@@ -17,7 +17,7 @@ use Rattle.uart.specs.Conversation as UC
 use Rattle.can.specs.Steps as C
 use Rattle.can.specs.Conversation as CC
 use Rattle.can.specs.Frames.{classic, frameIn, carried, isFrame, framed}
-use Rattle.boot.specs.Session.{fresh, on, progress, after}
+use Rattle.boot.specs.Session.{fresh, on, progress, gathered, after}
 use Rattle.boot.specs.Decide.{decideByte, decideFrame}
 use Rattle.boot.specs.Causes.{causeOf, accepts, uartRoom, canRoom}
 use Rattle.boot.specs.declared.Carrier.{Carrier}
@@ -90,7 +90,7 @@ perform i p d = record {
   cause = Accepted;
   reply = sent i (p .session) (says (commandsOf i) (d .reply) (p .memories));
   state = record {
-    session = after (carrierOf i) (brings i) (d .next) (p .session);
+    session = after (carrierOf i) (gathered (brings i) (p .session)) (d .next) (p .session);
     memories = effect (d .change) (stagedWith (progress (p .session)) (brings i)) (p .memories);
   };
 }

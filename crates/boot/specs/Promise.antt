@@ -28,6 +28,10 @@ pub record Left : Type 0 where
   pub usd : List ℕ
   pub buffer : List ℕ
 
+-- a result, and what was lent as it is now
+abbrev pub left : Taken → List ℕ → List ℕ → List ℕ → List ℕ → Left
+left r flash sram usd buffer = record { result = r; flash = flash; sram = sram; usd = usd; buffer = buffer }
+
 -- the state of a session and three lent memories
 abbrev pub stateOf : Session → List ℕ → List ℕ → List ℕ → State
 stateOf s flash sram usd = record {
@@ -54,12 +58,16 @@ givenFrame s frame flash sram usd buffer = record {
 unfoldable pub outcome : Given → Outcome
 outcome g = call (g .input) (g .state)
 
--- the promise of the two taking calls; the reply buffer beyond the reply is unchanged
-pub record Took (g : Given) (l : Left) : Type 0 where
-  pub number : l .result .number ≡ causeNo (outcome g .cause)
-  pub count : l .result .length ≡ length (outcome g .reply)
-  pub session : l .result .session ≡ outcome g .state .session
-  pub flash : l .flash ≡ outcome g .state .memories .flash
-  pub sram : l .sram ≡ outcome g .state .memories .sram
-  pub usd : l .usd ≡ outcome g .state .memories .usd
-  pub buffer : l .buffer ≡ outcome g .reply ++ drop (length (outcome g .reply)) (g .buffer)
+-- what is left is what an outcome says, part by part; the reply buffer beyond the reply is unchanged
+pub record Leaves (o : Outcome) (lent : List ℕ) (l : Left) : Type 0 where
+  pub number : l .result .number ≡ causeNo (o .cause)
+  pub count : l .result .length ≡ length (o .reply)
+  pub session : l .result .session ≡ o .state .session
+  pub flash : l .flash ≡ o .state .memories .flash
+  pub sram : l .sram ≡ o .state .memories .sram
+  pub usd : l .usd ≡ o .state .memories .usd
+  pub buffer : l .buffer ≡ o .reply ++ drop (length (o .reply)) lent
+
+-- the promise of the two taking calls
+abbrev pub Took : Given → Left → Type 0
+Took g l = Leaves (outcome g) (g .buffer) l

@@ -114,13 +114,13 @@ gathered new s = record {
   staged = stagedWith (progress s) new;
 }
 
--- the session after an input of a carrier that brought some bytes
-unfoldable pub after : Carrier → List ℕ → Next → Session → Session
-after c new Stay s = s
-after c new Reset s = fresh
-after c new Gather s = gathered new s
-after c new GoIdle s = idle c (s .speed)
-after c new (SetSpeed v) s = idle c v
-after c new (Enter step e) s = entered c step e (s .address) (s .speed)
-after c new (EnterAt step e a) s = entered c step e a (s .speed)
-after c new (Run a) s = running a
+-- the session after an input of a carrier, given the session with the input's bytes taken
+unfoldable pub after : Carrier → Session → Next → Session → Session
+after c taken Stay s = s
+after c taken Reset s = fresh
+after c taken Gather s = taken
+after c taken GoIdle s = idle c (s .speed)
+after c taken (SetSpeed v) s = idle c v
+after c taken (Enter step e) s = entered c step e (s .address) (s .speed)
+after c taken (EnterAt step e a) s = entered c step e a (s .speed)
+after c taken (Run a) s = running a

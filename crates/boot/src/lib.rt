@@ -1,3 +1,11 @@
+pub mod decide;
+pub mod steps;
+pub mod take;
+
+ghost use mathlib.Core.Path.{_≡_};
+ghost use Rattle.boot.specs.Session.{carrierNo};
+ghost use Rattle.boot.specs.Causes.{causeNo};
+
 // What a session is connected to.
 pub enum Carrier {
     None,
@@ -32,4 +40,34 @@ pub struct Taken {
     pub number: u8,
     pub length: usize,
     pub session: Session,
+}
+
+impl Carrier {
+    // The number of the carrier.
+    pub fn number(self) -> u8
+        ensures { λ r. ⌜ r ≡ carrierNo self ⌝ }
+    {
+        match self {
+            Carrier::None => 0,
+            Carrier::Uart => 1,
+            Carrier::Can => 2,
+            Carrier::Running => 3,
+        }
+    }
+}
+
+impl Cause {
+    // The number of the cause.
+    pub fn number(self) -> u8
+        ensures { λ r. ⌜ r ≡ causeNo self ⌝ }
+    {
+        match self {
+            Cause::Accepted => 0,
+            Cause::WrongMemory => 1,
+            Cause::ShortReply => 2,
+            Cause::BadFrame => 3,
+            Cause::UnsoundSession => 4,
+            Cause::BoardRunning => 5,
+        }
+    }
 }

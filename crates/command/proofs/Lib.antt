@@ -1,3 +1,6 @@
 pub mod Numbers
 pub mod Progress
+pub mod Holds
+pub mod Good
 pub mod Rulings
+pub mod Says

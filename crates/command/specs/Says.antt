@@ -1,10 +1,15 @@
 -- What each reply says, message by message.
-use Prim.Native.Nat.{ℕ}
+use Prim.Native.Nat.{ℕ, _+_}
+use mathlib.Core.Bool.{Bool, true, _&&_}
 use mathlib.Core.List.{List, [], _∷_, _++_}
+use mathlib.Core.Path.{_≡_}
+use lib.ListN.{length, drop}
+use lib.Dec.{leb}
 use Rattle.words.specs.Bytes.{byteOf, fourBytes}
 use Rattle.words.specs.Lists.{part, singly}
-use Rattle.board.specs.Board.{identity}
+use Rattle.board.specs.Board.{extentOf, flash, identity}
 use Rattle.crc.specs.Crc.{crc}
+use Rattle.memories.specs.Effects.{largestCount}
 use Rattle.memories.specs.Memories.{Memories, bytesOf}
 use Rattle.command.specs.declared.Reply.{Reply}
 use Rattle.command.specs.declared.Reply.the-variants.{Silence, Ack, AckAck, Nack, AckNack, Commands, Version, DeviceId, Data, Crc}
@@ -48,3 +53,21 @@ says commands Version m = told versionBytes
 says commands DeviceId m = told deviceBytes
 says commands (Data r at x) m = ackMessage ∷ part at x (bytesOf r m) ∷ []
 says commands (Crc at n) m = ackMessage ∷ fourBytes (crc (part at n (m .flash))) ∷ []
+
+-- a reply can be given: its bytes of a memory are there, and no more than a command carries
+abbrev pub sayable : Reply → Bool
+sayable Silence = true
+sayable Ack = true
+sayable AckAck = true
+sayable (Nack w) = true
+sayable (AckNack w) = true
+sayable Commands = true
+sayable Version = true
+sayable DeviceId = true
+sayable (Data r at x) = leb x largestCount && leb (at + x) (extentOf r .bytes)
+sayable (Crc at n) = leb (at + n) (flash .bytes)
+
+-- a reply of so many bytes stands at the front of a buffer, which is unchanged beyond it
+pub record Said (reply : List ℕ) (n : ℕ) (before after : List ℕ) : Type 0 where
+  pub count : n ≡ length reply
+  pub buffer : after ≡ reply ++ drop (length reply) before

@@ -20,7 +20,7 @@ use Rattle.command.specs.declared.Decision.{Decision}
 use Rattle.command.specs.declared.Next.{Next}
 use Rattle.command.specs.declared.Next.the-variants.{Stay, Reset, Gather, GoIdle, SetSpeed, Enter, EnterAt, Run}
 use Rattle.command.specs.declared.Reply.the-variants.{Silence}
-use Rattle.boot.specs.Session.{idle, after, progress}
+use Rattle.boot.specs.Session.{idle, after, progress, gathered}
 use Rattle.boot.specs.Causes.{accepts}
 use Rattle.boot.specs.Calls.{done, State, Input, carrierOf, brings, causeFor, decide, perform, refused, call, run}
 use Rattle.boot.specs.declared.Carrier.{Carrier}
@@ -28,7 +28,7 @@ use Rattle.boot.specs.declared.Carrier.the-variants.{None, Uart, Can, Running}
 use Rattle.boot.specs.declared.Cause.{Cause}
 use Rattle.boot.specs.declared.Session.{Session}
 use Rattle.theorems.specs.Failures.{acks, refuses, isRefused, inErase, erasePending, inEraseList, toErase, EraseAllOrNothing}
-use Rattle.theorems.proofs.Holds.{Holds}
+use Rattle.command.proofs.Holds.{Holds}
 use Rattle.theorems.proofs.Listed.{erasable, decide-erase}
 use Rattle.theorems.proofs.Honest.{isNothing, ends, Honest, decide-honest}
 
@@ -70,16 +70,16 @@ idle-out Can v = tt
 idle-out Running v = tt
 
 -- so a session inside an erase follows no decision that ends a command
-in-erase-pending : (c : Carrier) (new : List ℕ) (n : Next) (s : Session) → T (inErase (after c new n s)) → T (not (ends n))
+in-erase-pending : (c : Carrier) (g : Session) (n : Next) (s : Session) → T (inErase (after c g n s)) → T (not (ends n))
 unfolding after
-in-erase-pending c new Stay s h = tt
-in-erase-pending c new Reset s h = absurd h
-in-erase-pending c new Gather s h = tt
-in-erase-pending c new GoIdle s h = absurd (T-not (inErase (idle c (s .speed))) (idle-out c (s .speed)) h)
-in-erase-pending c new (SetSpeed v) s h = absurd (T-not (inErase (idle c v)) (idle-out c v) h)
-in-erase-pending c new (Enter step e) s h = tt
-in-erase-pending c new (EnterAt step e a) s h = tt
-in-erase-pending c new (Run a) s h = tt
+in-erase-pending c g Stay s h = tt
+in-erase-pending c g Reset s h = absurd h
+in-erase-pending c g Gather s h = tt
+in-erase-pending c g GoIdle s h = absurd (T-not (inErase (idle c (s .speed))) (idle-out c (s .speed)) h)
+in-erase-pending c g (SetSpeed v) s h = absurd (T-not (inErase (idle c v)) (idle-out c v) h)
+in-erase-pending c g (Enter step e) s h = tt
+in-erase-pending c g (EnterAt step e a) s h = tt
+in-erase-pending c g (Run a) s h = tt
 
 -- ---- one call, by whether it is accepted
 
@@ -95,7 +95,7 @@ module _ (i : Input) (p : State) (c : Cause) (d : Decision) (f : Holds Honest d)
       → (if t then perform i p d else refused c p) .state .memories ≡ p .memories
   unfolding perform
   erase-leaves true k =
-      leaves (d .change) (pending-leaves d f (in-erase-pending (carrierOf i) (brings i) (d .next) (p .session) k))
+      leaves (d .change) (pending-leaves d f (in-erase-pending (carrierOf i) (gathered (brings i) (p .session)) (d .next) (p .session) k))
       (stagedWith (progress (p .session)) (brings i)) (p .memories)
   erase-leaves false k = refl
 

@@ -35,7 +35,7 @@ use Rattle.boot.specs.Calls.{Input, Power, Byte, Framed, decide}
 use Rattle.boot.specs.declared.Carrier.{Carrier}
 use Rattle.boot.specs.declared.Session.{Session}
 use Rattle.theorems.specs.Failures.{refuses}
-use Rattle.theorems.proofs.Holds.{Holds, either, judged-either, unless-either}
+use Rattle.command.proofs.Holds.{Holds, either, judged-either, unless-either}
 
 -- no memory changes
 abbrev pub isNothing : Change → Bool

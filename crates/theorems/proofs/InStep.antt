@@ -26,7 +26,7 @@ use Rattle.boot.specs.declared.Carrier.the-variants.{None, Uart, Can}
 use Rattle.boot.specs.declared.Cause.{Cause}
 use Rattle.boot.specs.declared.Cause.the-variants.{WrongMemory}
 use Rattle.boot.specs.declared.Session.{Session}
-use Rattle.theorems.proofs.Holds.{Holds, split}
+use Rattle.command.proofs.Holds.{Holds, split}
 
 -- a session is on one carrier
 pub one-carrier : (c k : Carrier) (s : Session) → (carrierNo c ≡ carrierNo k → ⊥) → T (on c s) → T (on k s) → ⊥

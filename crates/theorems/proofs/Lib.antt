@@ -1,5 +1,4 @@
 pub mod Talk
-pub mod Holds
 pub mod Locked
 pub mod Secrecy
 pub mod Honest

@@ -35,7 +35,7 @@ use Rattle.boot.specs.Calls.{Input, Power, Byte, Framed, decide}
 use Rattle.boot.specs.declared.Carrier.the-variants.{Uart}
 use Rattle.boot.specs.declared.Session.{Session}
 use Rattle.theorems.specs.Failures.{acks, stagedAfter, countOfBytes, inProtect, inEraseList, toErase}
-use Rattle.theorems.proofs.Holds.{Holds, either}
+use Rattle.command.proofs.Holds.{Holds, either}
 use Rattle.theorems.proofs.InStep.{byte-in, frame-in}
 
 -- a decision that accepts makes a change, and a test holds

@@ -34,7 +34,7 @@ use Rattle.can.specs.Steps as C
 use Rattle.can.specs.Conversation as CC
 use Rattle.can.specs.Frames.{Frame, frameIn}
 use Rattle.can.specs.declared.Step as CS
-use Rattle.boot.specs.Session.{on, carrierNo, progress, after}
+use Rattle.boot.specs.Session.{on, carrierNo, progress, gathered, after}
 use Rattle.boot.specs.Decide.{connected, decideByte, decideFrame}
 use Rattle.boot.specs.Calls.{Input, Power, Byte, Framed, carrierOf, decide}
 use Rattle.boot.specs.declared.Carrier.{Carrier}
@@ -42,7 +42,7 @@ use Rattle.boot.specs.declared.Carrier.the-variants.{None, Uart, Can, Running}
 use Rattle.boot.specs.declared.Session.{Session}
 use Rattle.theorems.specs.Failures.{reads}
 use Rattle.theorems.specs.Secrecy.{unlocks}
-use Rattle.theorems.proofs.Holds.{Holds, either, split, unless-locked}
+use Rattle.command.proofs.Holds.{Holds, either, split, unless-locked}
 
 -- ---- sessions inside no protected command
 
@@ -285,13 +285,19 @@ idle-calm Uart = tt
 idle-calm Can = tt
 idle-calm Running = tt
 
-pub after-calm : (c : Carrier) (new : List ℕ) (n : Next) (s : Session) → T (calmNext c n) → T (calm s) → T (calm (after c new n s))
+pub after-calm : (c : Carrier) (g : Session) → T (calm g) → (n : Next) (s : Session) → T (calmNext c n) → T (calm s)
+    → T (calm (after c g n s))
 unfolding calm after
-after-calm c new Stay s k h = h
-after-calm c new Reset s k h = tt
-after-calm c new Gather s k h = h
-after-calm c new GoIdle s k h = idle-calm c
-after-calm c new (SetSpeed v) s k h = idle-calm c
-after-calm c new (Enter step e) s k h = k
-after-calm c new (EnterAt step e a) s k h = k
-after-calm c new (Run a) s k h = tt
+after-calm c g w Stay s k h = h
+after-calm c g w Reset s k h = tt
+after-calm c g w Gather s k h = w
+after-calm c g w GoIdle s k h = idle-calm c
+after-calm c g w (SetSpeed v) s k h = idle-calm c
+after-calm c g w (Enter step e) s k h = k
+after-calm c g w (EnterAt step e a) s k h = k
+after-calm c g w (Run a) s k h = tt
+
+-- taking bytes keeps a session calm
+pub gathered-calm : (new : List ℕ) (s : Session) → T (calm s) → T (calm (gathered new s))
+unfolding calm
+gathered-calm new s h = h

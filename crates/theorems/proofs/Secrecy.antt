@@ -19,7 +19,7 @@ use Rattle.command.specs.declared.Next.the-variants.{Stay}
 use Rattle.command.specs.declared.Reply.{Reply}
 use Rattle.command.specs.declared.Reply.the-variants.{Silence, Ack, AckAck, Nack, AckNack, Commands, Version, DeviceId, Data, Crc}
 use Rattle.can.specs.Frames.{classic, isFrame}
-use Rattle.boot.specs.Session.{after, progress}
+use Rattle.boot.specs.Session.{after, progress, gathered}
 use Rattle.boot.specs.Causes.{causeOf, accepts, uartRoom, canRoom}
 use Rattle.boot.specs.Calls.{done, State, powered, Input, Power, Byte, Framed, Outcome, carrierOf, brings, commandsOf, causeFor, decide, sent, perform, refused, call, outcomes, run}
 use Rattle.boot.specs.declared.Cause.{Cause}
@@ -27,7 +27,7 @@ use Rattle.boot.specs.declared.Cause.the-variants.{Accepted}
 use Rattle.boot.specs.declared.Session.{Session}
 use Rattle.theorems.specs.Failures.{reads}
 use Rattle.theorems.specs.Secrecy.{unlocks, opens, shut, veiled, Seen, seen, seenOf, Alike, Demand3}
-use Rattle.theorems.proofs.Locked.{calm, fixed, harmless, Discreet, decide-discreet, after-calm}
+use Rattle.theorems.proofs.Locked.{calm, fixed, harmless, Discreet, decide-discreet, after-calm, gathered-calm}
 
 -- ---- what a discreet act shows of the memories, and does to them
 
@@ -144,7 +144,7 @@ module _ (i : Input) (c : Cause) (d : Decision) (f : Discreet (carrierOf i) d) w
   -- the session stays calm
   stays-calm : (p : State) (t : Bool) → T (calm (p .session)) → T (calm (callBy i p t c d .state .session))
   unfolding perform
-  stays-calm p true h = after-calm (carrierOf i) (brings i) (d .next) (p .session) (f .calm) h
+  stays-calm p true h = after-calm (carrierOf i) (gathered (brings i) (p .session)) (gathered-calm (brings i) (p .session) h) (d .next) (p .session) (f .calm) h
   stays-calm p false h = h
 
   module _ (p q : State) (w : Twins p q) where
@@ -164,7 +164,7 @@ module _ (i : Input) (c : Cause) (d : Decision) (f : Discreet (carrierOf i) d) w
 
     sessions-alike : (t : Bool) → callBy i p t c d .state .session ≡ callBy i q t c d .state .session
     unfolding perform
-    sessions-alike true = ap (after (carrierOf i) (brings i) (d .next)) (w .session)
+    sessions-alike true = ap (λ (s : Session). after (carrierOf i) (gathered (brings i) s) (d .next) s) (w .session)
     sessions-alike false = w .session
 
     -- all that is seen is alike, unless it opens
@@ -184,7 +184,7 @@ module _ (i : Input) (c : Cause) (d : Decision) (f : Discreet (carrierOf i) d) w
       reply = (ap (λ (s : Session). sent i s (says (commandsOf i) (d .reply) (p .memories))) (w .session)
           ∙ ap (sent i (q .session)) (says-alike (commandsOf i) (d .reply) (f .fixed o) (p .memories) (q .memories))) j;
       state = record {
-        session = after (carrierOf i) (brings i) (d .next) (w .session j);
+        session = after (carrierOf i) (gathered (brings i) (w .session j)) (d .next) (w .session j);
         memories = (ap (λ (s : Session). effect (d .change) (stagedWith (progress s) (brings i)) (p .memories)) (w .session)
             ∙ wipes-alike (d .change) o (stagedWith (progress (q .session)) (brings i)) (p .memories) (q .memories) (w .locked) (w .usd)) j;
       };

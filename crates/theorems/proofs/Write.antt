@@ -40,7 +40,7 @@ use Rattle.boot.specs.Calls.{State, Input, Power, Byte, Framed, brings, causeFo
 use Rattle.boot.specs.declared.Carrier.the-variants.{Uart}
 use Rattle.boot.specs.declared.Session.{Session}
 use Rattle.theorems.specs.Failures.{inWrite, countOfBytes, isNamed, byteIn, byteAt, OnlyNamedBytes}
-use Rattle.theorems.proofs.Holds.{Holds, either, judged-either}
+use Rattle.command.proofs.Holds.{Holds, either, judged-either}
 use Rattle.theorems.proofs.InStep.{byte-in, frame-in, accepted-proper}
 
 -- ---- a write, byte by byte

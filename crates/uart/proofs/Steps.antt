@@ -1,11 +1,15 @@
 -- The UART steps are numbered from 0 in their order, and each is read back from its number.
 use mathlib.Core.Path.{_≡_, refl}
+use mathlib.Core.Bool.{_&&_}
 use mathlib.Core.List.{map}
-use Prim.Native.Nat.{_+_}
+use Prim.Native.Nat.{ℕ, _+_, _%_, _≤_}
+use native.Mathlib.Omega.{arith}
+use lib.Dec.{T, eqb, leb, leb→le, eqb→eq}
 use lib.ListN.{length}
 use Rattle.words.specs.Lists.{countFrom}
+use Rattle.words.proofs.Tests.{both-left, both-right}
 use Rattle.memories.specs.Effects.{largestCount}
-use Rattle.uart.specs.Steps.{stepNo, steps, stepOf, complementedByte, checkedAddress, oneByte, expectedFor}
+use Rattle.uart.specs.Steps.{stepNo, steps, stepOf, complementedByte, checkedAddress, oneByte, expectedFor, expects}
 use Rattle.uart.specs.declared.Step.{Step}
 use Rattle.uart.specs.declared.Step.the-variants.{Idle, ReadAddress, JumpAddress, WriteAddress, CrcAddress, ReadLength, WriteLength, WriteData, EraseSelector, SpecialCheck, EraseList, ProtectLength, ProtectList, CrcCount}
 
@@ -31,3 +35,32 @@ read-back CrcCount = refl
 -- the longest command, a write of 256 bytes, takes 265 bytes to its last answer
 pub longest-command : complementedByte + checkedAddress + oneByte + expectedFor largestCount ≡ 265
 longest-command = refl
+
+-- ---- what a step of some length may expect
+
+-- X bytes and their checksum
+pub counted : (e : ℕ) → T (leb 2 e && leb e 257) → (2 ≤ e) × (e ≤ 257)
+counted e t = (leb→le 2 e (both-left (leb 2 e) (leb e 257) t), leb→le e 257 (both-right (leb 2 e) (leb e 257) t))
+
+-- X two-byte numbers and their checksum
+pub numbered : (e : ℕ) → T (leb 3 e && leb e 65 && eqb (e % 2) 1) → (3 ≤ e) × (e ≤ 65)
+numbered e t =
+    let u : T (leb 3 e && leb e 65) = both-left (leb 3 e && leb e 65) (eqb (e % 2) 1) t in
+    (leb→le 3 e (both-left (leb 3 e) (leb e 65) u), leb→le e 65 (both-right (leb 3 e) (leb e 65) u))
+
+-- no step expects more than there are staged bytes
+pub at-most : (s : Step) (e : ℕ) → T (expects s e) → e ≤ 257
+at-most Idle e t = omega (arith, eqb→eq e 2 t)
+at-most ReadAddress e t = omega (arith, eqb→eq e 5 t)
+at-most JumpAddress e t = omega (arith, eqb→eq e 5 t)
+at-most WriteAddress e t = omega (arith, eqb→eq e 5 t)
+at-most CrcAddress e t = omega (arith, eqb→eq e 5 t)
+at-most ReadLength e t = omega (arith, eqb→eq e 2 t)
+at-most WriteLength e t = omega (arith, eqb→eq e 1 t)
+at-most WriteData e t = counted e t .1
+at-most EraseSelector e t = omega (arith, eqb→eq e 2 t)
+at-most SpecialCheck e t = omega (arith, eqb→eq e 1 t)
+at-most EraseList e t = omega (arith, numbered e t .1)
+at-most ProtectLength e t = omega (arith, eqb→eq e 1 t)
+at-most ProtectList e t = counted e t .1
+at-most CrcCount e t = omega (arith, eqb→eq e 3 t)

@@ -48,6 +48,10 @@ checks bytes checksum = eqb checksum (xorAll bytes)
 abbrev pub checksCounted : ℕ → List ℕ → Bool
 checksCounted x bytes = checks (oneLess x .0 ∷ take x bytes) (getD bytes x 0)
 
+-- the selector X - 1, X two-byte numbers and XOR of all of these, the selector having come before
+abbrev pub checksNumbered : ℕ → List ℕ → Bool
+checksNumbered x bytes = checks (twoBytes (oneLess x .0) ++ take (2 * x) bytes) (getD bytes (2 * x) 0)
+
 -- ACK, and a step is entered
 abbrev pub goOn : Step → ℕ → Decision
 goOn s e = answer Ack (Enter (stepNo s) e)
@@ -112,9 +116,7 @@ complete SpecialCheck e a bytes usd =
     if checks (twoBytes a) (getD bytes 0 0) gives judged (eraseAllVerdict usd a) (alter Ack EraseAll GoIdle)
     else nack BadChecksum
 complete EraseList e a bytes usd =
-    if checks (twoBytes (oneLess (numbersIn e) .0) ++ take (2 * numbersIn e) bytes) (getD bytes (2 * numbersIn e) 0)
-    gives erasing usd bytes (numbersIn e)
-    else nack BadChecksum
+    if checksNumbered (numbersIn e) bytes gives erasing usd bytes (numbersIn e) else nack BadChecksum
 complete ProtectLength e a bytes usd = awaits ProtectList bytes
 complete ProtectList e a bytes usd =
     if checksCounted (countIn e) bytes gives protecting bytes (countIn e) else nack BadChecksum

@@ -1,3 +1,10 @@
+pub mod conversation;
+pub mod say;
+
+ghost use mathlib.Core.Path.{_≡_};
+ghost use Rattle.uart.specs.Steps.{stepNo, stepOf, expects};
+use board::Board;
+
 // The steps of the UART conversation, idle first.
 pub enum Step {
     Idle,
@@ -14,4 +21,88 @@ pub enum Step {
     ProtectLength,
     ProtectList,
     CrcCount,
+}
+
+// What a byte and its complement take.
+pub const COMPLEMENTED_BYTE: usize = 2;
+
+// What an address and its XOR take.
+pub const CHECKED_ADDRESS: usize = 5;
+
+// What one byte takes.
+pub const ONE_BYTE: usize = 1;
+
+// What two selector bytes take.
+pub const SELECTOR_BYTES: usize = 2;
+
+// What a count of two bytes and its checksum take.
+pub const CHECKED_COUNT: usize = 3;
+
+impl Step {
+    // The number of the step.
+    pub fn number(self) -> u8
+        ensures { λ r. ⌜ r ≡ stepNo self ⌝ }
+    {
+        match self {
+            Step::Idle => 0,
+            Step::ReadAddress => 1,
+            Step::JumpAddress => 2,
+            Step::WriteAddress => 3,
+            Step::CrcAddress => 4,
+            Step::ReadLength => 5,
+            Step::WriteLength => 6,
+            Step::WriteData => 7,
+            Step::EraseSelector => 8,
+            Step::SpecialCheck => 9,
+            Step::EraseList => 10,
+            Step::ProtectLength => 11,
+            Step::ProtectList => 12,
+            Step::CrcCount => 13,
+        }
+    }
+
+    // The step of a number; idle where there is none.
+    pub fn of(number: u8) -> Step
+        ensures { λ r. ⌜ r ≡ stepOf number ⌝ }
+    {
+        match number {
+            0 => Step::Idle,
+            1 => Step::ReadAddress,
+            2 => Step::JumpAddress,
+            3 => Step::WriteAddress,
+            4 => Step::CrcAddress,
+            5 => Step::ReadLength,
+            6 => Step::WriteLength,
+            7 => Step::WriteData,
+            8 => Step::EraseSelector,
+            9 => Step::SpecialCheck,
+            10 => Step::EraseList,
+            11 => Step::ProtectLength,
+            12 => Step::ProtectList,
+            13 => Step::CrcCount,
+            _ => Step::Idle,
+        }
+    }
+
+    // Whether the step may expect this many bytes.
+    pub fn expects(self, n: usize) -> bool
+        ensures { λ r. ⌜ r ≡ expects self n ⌝ }
+    {
+        match self {
+            Step::Idle => n == COMPLEMENTED_BYTE,
+            Step::ReadAddress => n == CHECKED_ADDRESS,
+            Step::JumpAddress => n == CHECKED_ADDRESS,
+            Step::WriteAddress => n == CHECKED_ADDRESS,
+            Step::CrcAddress => n == CHECKED_ADDRESS,
+            Step::ReadLength => n == COMPLEMENTED_BYTE,
+            Step::WriteLength => n == ONE_BYTE,
+            Step::WriteData => (2 <= n) & (n <= 257),
+            Step::EraseSelector => n == SELECTOR_BYTES,
+            Step::SpecialCheck => n == ONE_BYTE,
+            Step::EraseList => (3 <= n) & (n <= 2 * Board::SECTORS + 1) & (n % 2 == 1),
+            Step::ProtectLength => n == ONE_BYTE,
+            Step::ProtectList => (2 <= n) & (n <= 257),
+            Step::CrcCount => n == CHECKED_COUNT,
+        }
+    }
 }

@@ -1,3 +1,4 @@
 pub mod Tests
 pub mod Over
 pub mod Slices
+pub mod Bytes

@@ -7,11 +7,11 @@ use native.Mathlib.Nat.{le-of-suc-le-suc, not-suc-le-zero, zero-add, suc-add}
 use native.Mathlib.Numerals.{add-one}
 use native.Mathlib.Omega.{arith}
 use lib.Dec.{leb, ltb}
-use lib.ListN.{length, getD, set, take, replicate, length-replicate, replicate-append-replicate}
+use lib.ListN.{length, getD, set, take, drop, replicate, length-replicate, replicate-append-replicate}
 use lib.Seq.{take-suc, length-take-le}
 use borrow.Author.Tests.{leb-true, leb-false, ltb-true, ltb-false}
 use Rattle.words.specs.Choice.{if_then_else_}
-use Rattle.words.specs.Over.{over, put, within}
+use Rattle.words.specs.Over.{over, newer, put, within}
 
 module _ (f : ℕ → ℕ → ℕ) where
   -- the length stays
@@ -114,3 +114,20 @@ module _ (f : ℕ → ℕ → ℕ) where
 pub put-all : (m : List ℕ) (b : ℕ) → put m 0 (replicate (length m) b) ≡ replicate (length m) b
 put-all [] b = refl
 put-all (x ∷ m) b = ap (λ (r : List ℕ). b ∷ r) (put-all m b)
+
+-- a first byte stored, and the rest put from the next place on
+pub put-cons : (m : List ℕ) (b : ℕ) (new : List ℕ) → 0 < length m → put (set m 0 b) 1 new ≡ put m 0 (b ∷ new)
+put-cons [] b new h = absurd (not-suc-le-zero h)
+put-cons (x ∷ m) b new h = refl
+
+-- bytes put at the front stand there, and behind them what stood there
+pub put-front : (m new : List ℕ) → length new ≤ length m → put m 0 new ≡ new ++ drop (length new) m
+put-front m [] h = over-none newer m 0
+put-front [] (b ∷ new) h = absurd (not-suc-le-zero h)
+put-front (x ∷ m) (b ∷ new) h = ap (λ (r : List ℕ). b ∷ r) (put-front m new (le-of-suc-le-suc h))
+
+-- one byte put is one byte stored
+pub put-one : (m : List ℕ) (at b : ℕ) → put m at (b ∷ []) ≡ set m at b
+put-one [] at b = refl
+put-one (x ∷ m) (suc at) b = ap (λ (r : List ℕ). x ∷ r) (put-one m at b)
+put-one (x ∷ m) zero b = ap (λ (r : List ℕ). b ∷ r) (over-none newer m 0)

@@ -1,7 +1,8 @@
 -- Laws of tests: what a test that holds says of its parts.
 use mathlib.Core.Path.{_≡_, refl, sym}
 use mathlib.Core.Bool.{Bool, true, false, not, _&&_}
-use Prim.Native.Nat.{ℕ, _≤_}
+use Prim.Native.Nat.{ℕ, suc, _≤_}
+use native.Mathlib.Omega.{arith}
 use native.Mathlib.Nat.{lt-of-not-le, not-le-of-lt}
 use lib.Dec.{T, leb}
 use borrow.Author.Tests.{le-leb, lt-leb, leb-true, leb-false}
@@ -48,3 +49,7 @@ same-order a b c d f g = by-test (leb a b) refl
     by-test : (t : Bool) → leb a b ≡ t → t ≡ leb c d
     by-test true e = sym (le-leb c d (f (leb-true a b e)))
     by-test false e = sym (lt-leb c d (lt-of-not-le λ k. not-le-of-lt (leb-false a b e) (g k)))
+
+-- a number from k on that is not k is past it
+pub past : (k n : ℕ) → k ≤ n → (n ≡ k → ⊥) → suc k ≤ n
+past k n h d = omega arith

@@ -1,8 +1,8 @@
 ghost use mathlib.Core.Path.{_≡_};
 ghost use mathlib.Core.List.{[], _∷_};
-ghost use Prim.Native.Nat.{_+_, _≤_};
+ghost use Prim.Native.Nat.{_+_, _≤_, _<_};
 ghost use lib.Dec.{eqb};
-ghost use lib.ListN.{length, take, drop, replicate};
+ghost use lib.ListN.{length, getD, take, drop, replicate};
 ghost use lib.Bits.{bitAnd};
 ghost use Rattle.words.specs.Bytes.{complement, number, xorFrom};
 ghost use Rattle.words.specs.Over.{over, put};
@@ -26,6 +26,14 @@ pub fn number4(a: u8, b: u8, c: u8, d: u8) -> u32
     ensures { λ r. ⌜ r ≡ number (a ∷ b ∷ c ∷ d ∷ []) ⌝ }
 {
     (number2(a, b) as u32) * 65536 + number2(c, d) as u32
+}
+
+// The first of some bytes, of which a caller thereby knows that it is below 256.
+pub fn first(bytes: &[u8]) -> u8
+    requires { ⌜ 0 < length (now bytes) ⌝ }
+    ensures { λ r. ⌜ (r ≡ getD (now (bytes .entry)) 0 0) × (r < 256) ⌝ }
+{
+    bytes[0]
 }
 
 // The XOR of a byte and the first n of some bytes.

@@ -1,0 +1,55 @@
+-- What an accepted call has, and what an accepted and a refused call leave.
+use mathlib.Core.Path.{_≡_, refl, sym, subst}
+use mathlib.Core.Bool.{Bool, true, false, not}
+use Prim.Native.Nat.{ℕ}
+use lib.Dec.{T}
+use Rattle.words.specs.Choice.{if_then_else_}
+use Rattle.boot.specs.Session.{on, sound}
+use Rattle.boot.specs.Causes.{accepts, causeNo, causeOf}
+use Rattle.boot.specs.Calls.{causeFor, decide, perform, call}
+use Rattle.boot.specs.Promise.{Given, Left, left, outcome, Leaves, Took}
+use Rattle.boot.specs.declared.Carrier.the-variants.{Running}
+use Rattle.boot.specs.declared.Cause.{Cause}
+use Rattle.boot.specs.declared.Cause.the-variants.{Accepted, WrongMemory, ShortReply, BadFrame, UnsoundSession, BoardRunning}
+use Rattle.boot.specs.declared.Session.{Session}
+
+-- memories with their lengths, room for the reply, a well-formed frame and a sound session
+pub record Clear (memories room frame sounds : Bool) : Type 0 where
+  pub lengths : T memories
+  pub enough : T room
+  pub formed : T frame
+  pub firm : T sounds
+
+-- an accepted call is clear of every cause
+pub accepted-clear : (m r f : Bool) (s : Session) → accepts (causeOf m r f s) ≡ true → Clear m r f (sound s)
+unfolding causeOf
+accepted-clear m r f s h = by-tests m r f (sound s) (subst T (sym h) tt)
+  where
+    by-tests : (m r f k : Bool)
+        → T (accepts
+        (if not m then WrongMemory else if not r then ShortReply else if not f then BadFrame
+        else if not k then UnsoundSession else if on Running s then BoardRunning else Accepted))
+        → Clear m r f k
+    by-tests true true true true h = record { lengths = tt; enough = tt; formed = tt; firm = tt }
+    by-tests true true true false h = absurd h
+    by-tests true true false k h = absurd h
+    by-tests true false f k h = absurd h
+    by-tests false r f k h = absurd h
+
+module _ (g : Given) (c : Cause) (ec : c ≡ causeFor (g .input) (g .state)) where
+  -- an accepted call leaves what its decision does
+  pub accepted-took : {l : Left} → accepts c ≡ true
+      → Leaves (perform (g .input) (g .state) (decide (g .input) (g .state .session) (g .state .memories .usd))) (g .buffer) l
+      → Took g l
+  unfolding outcome call
+  accepted-took h k = rw (← ec, h) k
+
+  -- a refused call leaves everything as it was
+  pub refused-took : {number : ℕ} → accepts c ≡ false → number ≡ causeNo c
+      → Took g
+      (left (record { number = number; length = 0; session = g .state .session }) (g .state .memories .flash)
+      (g .state .memories .sram) (g .state .memories .usd) (g .buffer))
+  unfolding outcome call
+  refused-took h e =
+      rw (← ec, h)
+      (record { number = e; count = refl; session = refl; flash = refl; sram = refl; usd = refl; buffer = refl })

@@ -1,0 +1,57 @@
+-- What a sound session says of its numbers.
+use mathlib.Core.Bool.{Bool, true, false, _&&_}
+use Prim.Native.Nat.{_≤_, _<_}
+use native.Mathlib.Omega.{arith}
+use lib.Dec.{T, eqb, leb, ltb, ltb→lt, eqb→eq}
+use lib.ListN.{length}
+use Rattle.words.specs.Choice.{if_then_else_}
+use Rattle.words.proofs.Tests.{both-left, both-right}
+use Rattle.uart.specs.Steps as U
+use Rattle.uart.proofs.Steps as UP
+use Rattle.can.specs.Steps as C
+use Rattle.can.proofs.Steps as CP
+use Rattle.boot.specs.Session.{on, stepSound, sound}
+use Rattle.boot.specs.declared.Carrier.the-variants.{Uart}
+use Rattle.boot.specs.declared.Session.{Session}
+
+module _ (s : Session) (t : T (sound s)) where
+  -- taken is below expected
+  pub sound-taken : s .taken < s .expected
+  unfolding sound
+  sound-taken =
+      ltb→lt (s .taken) (s .expected)
+      (both-right (leb (s .carrier) 3 && leb (s .speed) 3 && stepSound (s .carrier) (s .step) (s .expected)) (ltb (s .taken) (s .expected)) t)
+
+  -- the step is one of the carrier's, and may expect what it does
+  pub sound-step : T (stepSound (s .carrier) (s .step) (s .expected))
+  unfolding sound
+  sound-step =
+      both-right (leb (s .carrier) 3 && leb (s .speed) 3) (stepSound (s .carrier) (s .step) (s .expected))
+      (both-left (leb (s .carrier) 3 && leb (s .speed) 3 && stepSound (s .carrier) (s .step) (s .expected)) (ltb (s .taken) (s .expected)) t)
+
+  -- on UART, that is a step of UART
+  pub uart-expects : T (on Uart s) → T (U.expects (U.stepOf (s .step)) (s .expected))
+  uart-expects o = by-test (eqb (s .carrier) 1) o sound-step
+    where
+      by-test : (b : Bool) → T b
+          → T (if b then ltb (s .step) (length U.steps) && U.expects (U.stepOf (s .step)) (s .expected)
+          else if eqb (s .carrier) 2 then ltb (s .step) (length C.steps) && C.expects (C.stepOf (s .step)) (s .expected)
+          else eqb (s .step) 0 && eqb (s .expected) 1)
+          → T (U.expects (U.stepOf (s .step)) (s .expected))
+      by-test true o h = both-right (ltb (s .step) 14) (U.expects (U.stepOf (s .step)) (s .expected)) h
+      by-test false o h = absurd o
+
+  -- no more is expected than there are staged bytes
+  pub sound-expected : s .expected ≤ 257
+  sound-expected = by-tests (eqb (s .carrier) 1) (eqb (s .carrier) 2) sound-step
+    where
+      by-tests : (b c : Bool)
+          → T (if b then ltb (s .step) (length U.steps) && U.expects (U.stepOf (s .step)) (s .expected)
+          else if c then ltb (s .step) (length C.steps) && C.expects (C.stepOf (s .step)) (s .expected)
+          else eqb (s .step) 0 && eqb (s .expected) 1)
+          → s .expected ≤ 257
+      by-tests true c h =
+          UP.at-most (U.stepOf (s .step)) (s .expected) (both-right (ltb (s .step) 14) (U.expects (U.stepOf (s .step)) (s .expected)) h)
+      by-tests false true h =
+          CP.at-most (C.stepOf (s .step)) (s .expected) (both-right (ltb (s .step) 4) (C.expects (C.stepOf (s .step)) (s .expected)) h)
+      by-tests false false h = omega (arith, eqb→eq (s .expected) 1 (both-right (eqb (s .step) 0) (eqb (s .expected) 1) h))

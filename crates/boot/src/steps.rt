@@ -1,0 +1,120 @@
+ghost use mathlib.Core.Path.{_≡_};
+ghost use mathlib.Core.List.{[], _∷_};
+ghost use Prim.Native.Nat.{_<_, _≤_};
+ghost use lib.Dec.{T};
+ghost use lib.ListN.{length};
+ghost use Rattle.boot.specs.Session.{idleExpects, entered, idle, running, stepSound, sound, gathered, after};
+ghost use Rattle.boot.specs.Promise.{PoweredOn};
+use crate::Carrier;
+use crate::Session;
+use command::Next;
+
+// What carriers none and running expect.
+const RESTING: usize = 1;
+
+// The speed at power on, and the largest.
+const FRESH_SPEED: u8 = 2;
+
+const LARGEST_SPEED: u8 = 3;
+
+// What an idle session expects on a carrier.
+fn idle_expects(carrier: Carrier) -> usize
+    ensures { λ r. ⌜ r ≡ idleExpects carrier ⌝ }
+{
+    match carrier {
+        Carrier::None => RESTING,
+        Carrier::Uart => uart::COMPLEMENTED_BYTE,
+        Carrier::Can => can::ONE_FRAME,
+        Carrier::Running => RESTING,
+    }
+}
+
+// Whether a step is one of a carrier's, and may expect this.
+fn step_sound(carrier: u8, step: u8, expected: usize) -> bool
+    ensures { λ r. ⌜ r ≡ stepSound carrier step expected ⌝ }
+{
+    match carrier {
+        1 => (step < 14) & uart::Step::of(step).expects(expected),
+        2 => (step < 4) & can::Step::of(step).expects(expected),
+        _ => (step == 0) & (expected == RESTING),
+    }
+}
+
+impl Session {
+    // A fresh session.
+    pub fn power_on() -> Session
+        ensures { λ r. ⌜ PoweredOn r ⌝ }
+    {
+        Session::enter(Carrier::None, 0, RESTING, 0, FRESH_SPEED)
+    }
+
+    // A session that enters a step.
+    fn enter(carrier: Carrier, step: u8, expected: usize, address: u32, speed: u8) -> Session
+        ensures { λ r. ⌜ r ≡ entered carrier step expected address speed ⌝ }
+    {
+        Session {
+            carrier: carrier.number(),
+            step: step,
+            taken: 0,
+            expected: expected,
+            address: address,
+            speed: speed,
+            staged: [0u8; 257],
+        }
+    }
+
+    // An idle session on a carrier.
+    fn idle(carrier: Carrier, speed: u8) -> Session
+        ensures { λ r. ⌜ r ≡ idle carrier speed ⌝ }
+    {
+        Session::enter(carrier, 0, idle_expects(carrier), 0, speed)
+    }
+
+    // A running session.
+    fn run(address: u32) -> Session
+        ensures { λ r. ⌜ r ≡ running address ⌝ }
+    {
+        Session::enter(Carrier::Running, 0, RESTING, address, FRESH_SPEED)
+    }
+
+    // Whether the session is sound.
+    pub fn sound(self) -> bool
+        ensures { λ r. ⌜ r ≡ sound self ⌝ }
+    {
+        (self.carrier <= 3)
+            & (self.speed <= LARGEST_SPEED)
+            & step_sound(self.carrier, self.step, self.expected)
+            & (self.taken < self.expected)
+    }
+
+    // The session with one byte taken.
+    pub fn gather(mut self, byte: u8) -> Session
+        requires { ⌜ (self .taken < self .expected) × (self .expected ≤ 257) ⌝ }
+        ensures { λ r. ⌜ r ≡ gathered (byte ∷ []) self ⌝ }
+    {
+        let at = self.taken;
+        self.staged[at] = byte;
+        self.taken = at + 1;
+        self
+    }
+
+    // The session after an input of a carrier, given the session with the input's bytes taken.
+    pub fn after(self, carrier: Carrier, taken: Session, next: Next) -> Session
+        ensures { λ r. ⌜ r ≡ after carrier taken next self ⌝ }
+    {
+        match next {
+            Next::Stay => self,
+            Next::Reset => Session::power_on(),
+            Next::Gather => taken,
+            Next::GoIdle => Session::idle(carrier, self.speed),
+            Next::SetSpeed(speed) => Session::idle(carrier, speed),
+            Next::Enter(step, expected) => {
+                Session::enter(carrier, step, expected, self.address, self.speed)
+            }
+            Next::EnterAt(step, expected, address) => {
+                Session::enter(carrier, step, expected, address, self.speed)
+            }
+            Next::Run(address) => Session::run(address),
+        }
+    }
+}

@@ -1,0 +1,85 @@
+-- What the end of a UART step decides can be carried out and said.
+use mathlib.Core.Bool.{Bool}
+use mathlib.Core.List.{List}
+use Prim.Native.Nat.{ℕ, _+_, _<_}
+use native.Mathlib.Omega.{arith}
+use lib.Dec.{T}
+use lib.ListN.{getD}
+use Rattle.board.specs.declared.Address.{Address}
+use Rattle.command.specs.declared.Command.{Command}
+use Rattle.command.specs.declared.Command.the-variants.{GetCommands, GetVersion, GetDeviceId, ReadMemory, Jump, WriteMemory, Erase, ProgramProtect, ProgramUnprotect, AccessProtect, AccessUnprotect, FirmwareCrc, ResetDevice, Speed}
+use Rattle.command.specs.declared.Decision.{Decision}
+use Rattle.command.specs.declared.Lookup.{Lookup}
+use Rattle.command.specs.declared.Lookup.the-variants.{Known, Unknown}
+use Rattle.command.specs.declared.Selector.{Selector}
+use Rattle.command.specs.declared.Selector.the-variants.{Listed, Special, Impossible}
+use Rattle.command.proofs.Holds.{Holds, either, judged-either, unless-either}
+use Rattle.command.proofs.Good.{Good, told, refusal, reading-good, writing-good, erasing-good, protecting-good, jumping-good, summing-good}
+use Rattle.uart.specs.Conversation.{obeyed, commanded, addressed, keptIf, selected, complete}
+use Rattle.uart.specs.Steps.{expects, countIn, numbersIn}
+use Rattle.uart.specs.declared.Step.{Step}
+use Rattle.uart.specs.declared.Step.the-variants.{Idle, ReadAddress, JumpAddress, WriteAddress, CrcAddress, ReadLength, WriteLength, WriteData, EraseSelector, SpecialCheck, EraseList, ProtectLength, ProtectList, CrcCount}
+use Rattle.uart.proofs.Steps.{counted, numbered}
+
+module _ (bytes : List ℕ) where
+  obeyed-good : (k : Command) → Holds (Good bytes) (obeyed k)
+  unfolding obeyed
+  obeyed-good GetCommands = told bytes tt
+  obeyed-good GetVersion = told bytes tt
+  obeyed-good GetDeviceId = told bytes tt
+  obeyed-good ReadMemory = told bytes tt
+  obeyed-good Jump = told bytes tt
+  obeyed-good WriteMemory = told bytes tt
+  obeyed-good Erase = told bytes tt
+  obeyed-good ProgramProtect = told bytes tt
+  obeyed-good ProgramUnprotect = record { holds = record { sayable = tt; fits = tt } }
+  obeyed-good AccessProtect = record { holds = record { sayable = tt; fits = tt } }
+  obeyed-good AccessUnprotect = record { holds = record { sayable = tt; fits = tt } }
+  obeyed-good FirmwareCrc = told bytes tt
+  obeyed-good ResetDevice = told bytes tt
+  obeyed-good Speed = told bytes tt
+
+  commanded-good : (usd : List ℕ) (k : Lookup) → Holds (Good bytes) (commanded usd k)
+  unfolding commanded
+  commanded-good usd (Known k) = unless-either (Good bytes) usd k (refusal bytes) (obeyed-good k)
+  commanded-good usd Unknown = told bytes tt
+
+  addressed-good : (go : Address → Decision) → ((a : Address) → Holds (Good bytes) (go a)) → Holds (Good bytes) (addressed go bytes)
+  unfolding addressed
+  addressed-good go f = either (Good bytes) _ (f _) (told bytes tt)
+
+  kept-good : (good : Address → Bool) (s : Step) (e : ℕ) (a : Address) → Holds (Good bytes) (keptIf good s e a)
+  unfolding keptIf
+  kept-good good s e a = either (Good bytes) _ (told bytes tt) (told bytes tt)
+
+  selected-good : (k : Selector) → Holds (Good bytes) (selected k)
+  unfolding selected
+  selected-good (Listed n) = told bytes tt
+  selected-good (Special n) = told bytes tt
+  selected-good Impossible = told bytes tt
+
+  -- the first byte is a byte, so that no read is longer than 256
+  pub complete-good : getD bytes 0 0 < 256 → (s : Step) (e : ℕ) → T (expects s e) → (a : ℕ) (usd : List ℕ)
+      → Holds (Good bytes) (complete s e a bytes usd)
+  unfolding complete
+  complete-good b Idle e t a usd = either (Good bytes) _ (commanded-good usd _) (told bytes tt)
+  complete-good b ReadAddress e t a usd = addressed-good _ (kept-good _ _ _)
+  complete-good b JumpAddress e t a usd = addressed-good _ (jumping-good bytes)
+  complete-good b WriteAddress e t a usd = addressed-good _ (kept-good _ _ _)
+  complete-good b CrcAddress e t a usd = addressed-good _ (kept-good _ _ _)
+  complete-good b ReadLength e t a usd = either (Good bytes) _ (reading-good bytes _ (getD bytes 0 0 + 1) (omega arith)) (told bytes tt)
+  complete-good b WriteLength e t a usd = told bytes tt
+  complete-good b WriteData e t a usd =
+      let h = counted e t in
+      either (Good bytes) _ (writing-good bytes usd _ (countIn e) (omega arith)) (told bytes tt)
+  complete-good b EraseSelector e t a usd = selected-good _
+  complete-good b SpecialCheck e t a usd =
+      either (Good bytes) _ (judged-either (Good bytes) _ (refusal bytes) (record { holds = record { sayable = tt; fits = tt } })) (told bytes tt)
+  complete-good b EraseList e t a usd =
+      let h = numbered e t in
+      either (Good bytes) _ (erasing-good bytes usd (numbersIn e) (omega arith)) (told bytes tt)
+  complete-good b ProtectLength e t a usd = told bytes tt
+  complete-good b ProtectList e t a usd =
+      let h = counted e t in
+      either (Good bytes) _ (protecting-good bytes (countIn e) (omega arith)) (told bytes tt)
+  complete-good b CrcCount e t a usd = either (Good bytes) _ (summing-good bytes _ _) (told bytes tt)

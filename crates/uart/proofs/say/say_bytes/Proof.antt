@@ -1,0 +1,20 @@
+-- ACK is stored first, and the bytes are copied behind it.
+use borrow.Author.Needs.{needs}
+use native.Mathlib.Omega.{arith}
+use mathlib.Core.Path.{refl, ap, _∙_}
+use lib.ListN.{length, length-set}
+use Rattle.words.specs.Lists.{part}
+use Rattle.words.proofs.Over.{put-cons, length-over}
+use Rattle.words.specs.Over.{newer}
+use Rattle.uart.proofs.say.say_bytes.Statement.{statement}
+use Rattle.uart.proofs.say.say_bytes.Tie as tie
+
+pub say-bytes-spec : {M : Type 1} → statement M
+say-bytes-spec =
+    tie.close
+    (tie.spec
+    (λ c. search needs)
+    (λ c κs. (simp length-set (omega arith), omega arith))
+    (λ c. search needs)
+    (λ c. ap length (c .before .before .copy .ensures) ∙ simp (length-over newer, length-set))
+    (λ c. (refl, c .before .before .copy .ensures ∙ put-cons (c .before .before .before .before .before .before .args .buffer .now) 121 (part (c .before .before .before .before .before .before .args .at) (c .before .before .before .before .before .before .args .x) (c .before .before .before .before .before .before .args .memory .now)) (omega arith))))

@@ -1,0 +1,364 @@
+ghost use mathlib.Core.Path.{_≡_};
+ghost use mathlib.Core.List.{[]};
+ghost use Prim.Native.Nat.{_≤_};
+ghost use lib.Dec.{T};
+ghost use lib.ListN.{length, getD, take};
+ghost use Rattle.words.specs.Bytes.{number, twoBytes};
+ghost use Rattle.board.specs.Board.{address};
+ghost use Rattle.board.specs.Quantities.{countOf, lessOne};
+ghost use Rattle.board.specs.Regions.{known, sectorStart};
+ghost use Rattle.command.specs.Commands.{uartCommands, lookUp};
+ghost use Rattle.command.specs.Decision.{if_gives_else_, answer, nack};
+ghost use Rattle.command.specs.Rules.{jumping};
+ghost use Rattle.command.specs.declared.Next.the-variants.{EnterAt};
+ghost use Rattle.command.specs.declared.Reply.the-variants.{Ack};
+ghost use Rattle.command.specs.declared.Why.the-variants.{BadAddress};
+ghost use Rattle.uart.specs.Steps.{stepNo, expects};
+ghost use Rattle.uart.specs.Conversation.{complemented, checks, checksCounted, checksNumbered, goOn, awaits, obeyed, commanded, addressed, keptIf, selected, complete};
+use crate::Step;
+use board::Address;
+use board::Board;
+use board::LessOne;
+use command::Command;
+use command::Decision;
+use command::Lookup;
+use command::Next;
+use command::Reply;
+use command::Selector;
+use command::Why;
+use memories::Change;
+
+// The command that a byte asks for, if there is one.
+fn look_up(byte: u8) -> Lookup
+    ensures { λ r. ⌜ r ≡ lookUp uartCommands byte ⌝ }
+{
+    match byte {
+        0x00 => Lookup::Known(Command::GetCommands),
+        0x01 => Lookup::Known(Command::GetVersion),
+        0x02 => Lookup::Known(Command::GetDeviceId),
+        0x11 => Lookup::Known(Command::ReadMemory),
+        0x21 => Lookup::Known(Command::Jump),
+        0x31 => Lookup::Known(Command::WriteMemory),
+        0x44 => Lookup::Known(Command::Erase),
+        0x63 => Lookup::Known(Command::ProgramProtect),
+        0x73 => Lookup::Known(Command::ProgramUnprotect),
+        0x82 => Lookup::Known(Command::AccessProtect),
+        0x92 => Lookup::Known(Command::AccessUnprotect),
+        0xAC => Lookup::Known(Command::FirmwareCrc),
+        0xD4 => Lookup::Known(Command::ResetDevice),
+        _ => Lookup::Unknown,
+    }
+}
+
+// ACK, and a step is entered.
+fn go_on(step: Step, expected: usize) -> Decision
+    ensures { λ r. ⌜ r ≡ goOn step expected ⌝ }
+{
+    command::answer(Reply::Ack, Next::Enter(step.number(), expected))
+}
+
+// A command's ACK, with what it asks for.
+fn obeyed(command: Command) -> Decision
+    ensures { λ r. ⌜ r ≡ obeyed command ⌝ }
+{
+    match command {
+        Command::GetCommands => command::answer(Reply::Commands, Next::GoIdle),
+        Command::GetVersion => command::answer(Reply::Version, Next::GoIdle),
+        Command::GetDeviceId => command::answer(Reply::DeviceId, Next::GoIdle),
+        Command::ReadMemory => go_on(Step::ReadAddress, crate::CHECKED_ADDRESS),
+        Command::Jump => go_on(Step::JumpAddress, crate::CHECKED_ADDRESS),
+        Command::WriteMemory => go_on(Step::WriteAddress, crate::CHECKED_ADDRESS),
+        Command::Erase => go_on(Step::EraseSelector, crate::SELECTOR_BYTES),
+        Command::ProgramProtect => go_on(Step::ProtectLength, crate::ONE_BYTE),
+        Command::ProgramUnprotect => command::alter(Reply::AckAck, Change::Release, Next::Reset),
+        Command::AccessProtect => command::alter(Reply::AckAck, Change::Lock, Next::Reset),
+        Command::AccessUnprotect => command::alter(Reply::AckAck, Change::Unlock, Next::Reset),
+        Command::FirmwareCrc => go_on(Step::CrcAddress, crate::CHECKED_ADDRESS),
+        Command::ResetDevice => command::answer(Reply::AckAck, Next::Reset),
+        Command::Speed => command::nack(Why::UnknownCommand),
+    }
+}
+
+// A command that is known and not forbidden is obeyed.
+fn commanded(usd: &[u8], lookup: Lookup) -> Decision
+    requires { ⌜ length (now usd) ≡ 64 ⌝ }
+    ensures { λ r. ⌜ r ≡ commanded (now (usd .entry)) lookup ⌝ }
+{
+    match lookup {
+        Lookup::Known(command) => command::unless_protected(usd, command, obeyed(command)),
+        Lookup::Unknown => command::nack(Why::UnknownCommand),
+    }
+}
+
+// Whether the first two bytes are a byte and its complement.
+fn complemented(bytes: &[u8]) -> bool
+    requires { ⌜ length (now bytes) ≡ 257 ⌝ }
+    ensures { λ r. ⌜ r ≡ complemented (now (bytes .entry)) ⌝ }
+{
+    words::is_complement(bytes[0], bytes[1])
+}
+
+// Whether the fifth byte is the XOR of the four of an address.
+fn address_checks(bytes: &[u8]) -> bool
+    requires { ⌜ length (now bytes) ≡ 257 ⌝ }
+    ensures { λ r. ⌜ r ≡ checks (take 4 (now (bytes .entry))) (getD (now (bytes .entry)) 4 0) ⌝ }
+{
+    bytes[4] == words::xor_from(0, bytes, 4)
+}
+
+// The address that the first four bytes write.
+fn address_in(bytes: &[u8]) -> Address
+    requires { ⌜ length (now bytes) ≡ 257 ⌝ }
+    ensures { λ r. ⌜ r ≡ address (number (take 4 (now (bytes .entry)))) ⌝ }
+{
+    Address(words::number4(bytes[0], bytes[1], bytes[2], bytes[3]))
+}
+
+// An address that passes is kept, and a step is entered.
+fn kept(good: bool, step: Step, expected: usize, address: Address) -> Decision
+    ensures { λ r. ⌜ r ≡ (if good gives answer Ack (EnterAt (stepNo step) expected (address .0)) else nack BadAddress) ⌝ }
+{
+    if good {
+        command::answer(
+            Reply::Ack,
+            Next::EnterAt(step.number(), expected, address.0),
+        )
+    } else {
+        command::nack(Why::BadAddress)
+    }
+}
+
+// The end of the address of 0x11 or 0x31.
+fn region_address(bytes: &[u8], next: Step, expected: usize) -> Decision
+    requires { ⌜ length (now bytes) ≡ 257 ⌝ }
+    ensures { λ r. ⌜ r ≡ addressed (keptIf known next expected) (now (bytes .entry)) ⌝ }
+{
+    let ok = address_checks(bytes);
+    if ok {
+        let address = address_in(bytes);
+        kept(Board::known(address), next, expected, address)
+    } else {
+        command::nack(Why::BadChecksum)
+    }
+}
+
+// The end of the address of 0xAC.
+fn crc_address(bytes: &[u8], next: Step, expected: usize) -> Decision
+    requires { ⌜ length (now bytes) ≡ 257 ⌝ }
+    ensures { λ r. ⌜ r ≡ addressed (keptIf sectorStart next expected) (now (bytes .entry)) ⌝ }
+{
+    let ok = address_checks(bytes);
+    if ok {
+        let address = address_in(bytes);
+        kept(Board::sector_start(address), next, expected, address)
+    } else {
+        command::nack(Why::BadChecksum)
+    }
+}
+
+// The end of the address of 0x21.
+fn jump_address(bytes: &[u8]) -> Decision
+    requires { ⌜ length (now bytes) ≡ 257 ⌝ }
+    ensures { λ r. ⌜ r ≡ addressed jumping (now (bytes .entry)) ⌝ }
+{
+    let ok = address_checks(bytes);
+    if ok {
+        command::jump(address_in(bytes))
+    } else {
+        command::nack(Why::BadChecksum)
+    }
+}
+
+// The count that a byte sends as one less.
+fn count_of(byte: u8) -> usize
+    ensures { λ r. ⌜ (r ≡ countOf (lessOne byte)) × (r ≤ 256) ⌝ }
+{
+    LessOne(byte as u16).count()
+}
+
+// A count has come, and a step for so many bytes and their checksum is entered.
+fn awaits(step: Step, bytes: &[u8]) -> Decision
+    requires { ⌜ length (now bytes) ≡ 257 ⌝ }
+    ensures { λ r. ⌜ r ≡ awaits step (now (bytes .entry)) ⌝ }
+{
+    command::answer(
+        Reply::Silence,
+        Next::Enter(step.number(), count_of(bytes[0]) + 1),
+    )
+}
+
+// Whether the byte behind x bytes is the XOR of them and of x - 1.
+fn checks_counted(bytes: &[u8], x: usize) -> bool
+    requires { ⌜ (length (now bytes) ≡ 257) × (1 ≤ x) × (x ≤ 256) ⌝ }
+    ensures { λ r. ⌜ r ≡ checksCounted x (now (bytes .entry)) ⌝ }
+{
+    bytes[x] == words::xor_from((x - 1) as u8, bytes, x)
+}
+
+// Whether the byte behind x two-byte numbers is the XOR of them and of the selector.
+fn checks_numbered(bytes: &[u8], x: usize) -> bool
+    requires { ⌜ (length (now bytes) ≡ 257) × (1 ≤ x) × (x ≤ 32) ⌝ }
+    ensures { λ r. ⌜ r ≡ checksNumbered x (now (bytes .entry)) ⌝ }
+{
+    let end = 2 * x;
+    bytes[end] == words::xor_from((x - 1) as u8, bytes, end)
+}
+
+// What the selector of an erase leads to.
+fn selected(selector: Selector) -> Decision
+    ensures { λ r. ⌜ r ≡ selected selector ⌝ }
+{
+    match selector {
+        Selector::Listed(sent) => {
+            command::answer(
+                Reply::Silence,
+                Next::Enter(Step::EraseList.number(), 2 * sent.count() + 1),
+            )
+        }
+        Selector::Special(number) => command::answer(
+            Reply::Silence,
+            Next::EnterAt(Step::SpecialCheck.number(), crate::ONE_BYTE, number as u32),
+        ),
+        Selector::Impossible => command::nack(Why::BadRange),
+    }
+}
+
+// The end of a command and its complement.
+fn command_ends(usd: &[u8], bytes: &[u8]) -> Decision
+    requires { ⌜ (length (now usd) ≡ 64) × (length (now bytes) ≡ 257) ⌝ }
+    ensures { λ r. ⌜ r ≡ complete Step.Idle 2 0 (now (bytes .entry)) (now (usd .entry)) ⌝ }
+{
+    let ok = complemented(bytes);
+    if ok {
+        commanded(usd, look_up(bytes[0]))
+    } else {
+        command::nack(Why::BadComplement)
+    }
+}
+
+// The end of a read's length and its complement.
+fn read_ends(address: u32, bytes: &[u8]) -> Decision
+    requires { ⌜ length (now bytes) ≡ 257 ⌝ }
+    ensures { λ r. ⌜ r ≡ complete Step.ReadLength 2 address (now (bytes .entry)) [] ⌝ }
+{
+    let ok = complemented(bytes);
+    if ok {
+        command::read(Address(address), count_of(bytes[0]))
+    } else {
+        command::nack(Why::BadChecksum)
+    }
+}
+
+// The end of a write's data and their checksum.
+fn write_ends(usd: &[u8], expected: usize, address: u32, bytes: &[u8]) -> Decision
+    requires { ⌜ (length (now usd) ≡ 64) × (2 ≤ expected) × (expected ≤ 257) × (length (now bytes) ≡ 257) ⌝ }
+    ensures { λ r. ⌜ r ≡ complete Step.WriteData expected address (now (bytes .entry)) (now (usd .entry)) ⌝ }
+{
+    let x = expected - 1;
+    let ok = checks_counted(bytes, x);
+    if ok {
+        command::write(usd, Address(address), x)
+    } else {
+        command::nack(Why::BadChecksum)
+    }
+}
+
+// The end of an erase's selector.
+fn selector_ends(bytes: &[u8]) -> Decision
+    requires { ⌜ length (now bytes) ≡ 257 ⌝ }
+    ensures { λ r. ⌜ r ≡ complete Step.EraseSelector 2 0 (now (bytes .entry)) [] ⌝ }
+{
+    selected(command::selector_of(words::number2(bytes[0], bytes[1])))
+}
+
+// Whether a byte is the XOR of the two low bytes of a special selector.
+fn special_checks(address: u32, byte: u8) -> bool
+    ensures { λ r. ⌜ r ≡ checks (twoBytes address) byte ⌝ }
+{
+    let high = (address / 256 % 256) as u8;
+    let low = (address % 256) as u8;
+    byte == high ^ low
+}
+
+// The end of a special erase.
+fn special_ends(usd: &[u8], address: u32, bytes: &[u8]) -> Decision
+    requires { ⌜ (length (now usd) ≡ 64) × (length (now bytes) ≡ 257) ⌝ }
+    ensures { λ r. ⌜ r ≡ complete Step.SpecialCheck 1 address (now (bytes .entry)) (now (usd .entry)) ⌝ }
+{
+    let ok = special_checks(address, bytes[0]);
+    if ok {
+        command::judged(
+            command::erase_all_verdict(usd, address),
+            command::alter(Reply::Ack, Change::EraseAll, Next::GoIdle),
+        )
+    } else {
+        command::nack(Why::BadChecksum)
+    }
+}
+
+// The end of an erase's numbers and their checksum.
+fn erase_ends(usd: &[u8], expected: usize, bytes: &[u8]) -> Decision
+    requires { ⌜ (length (now usd) ≡ 64) × (3 ≤ expected) × (expected ≤ 65) × (length (now bytes) ≡ 257) ⌝ }
+    ensures { λ r. ⌜ r ≡ complete Step.EraseList expected 0 (now (bytes .entry)) (now (usd .entry)) ⌝ }
+{
+    let x = (expected - 1) / 2;
+    let ok = checks_numbered(bytes, x);
+    if ok {
+        command::erase(usd, bytes, x)
+    } else {
+        command::nack(Why::BadChecksum)
+    }
+}
+
+// The end of the indexes of 0x63 and their checksum.
+fn protect_ends(expected: usize, bytes: &[u8]) -> Decision
+    requires { ⌜ (2 ≤ expected) × (expected ≤ 257) × (length (now bytes) ≡ 257) ⌝ }
+    ensures { λ r. ⌜ r ≡ complete Step.ProtectList expected 0 (now (bytes .entry)) [] ⌝ }
+{
+    let x = expected - 1;
+    let ok = checks_counted(bytes, x);
+    if ok {
+        command::protect(bytes, x)
+    } else {
+        command::nack(Why::BadChecksum)
+    }
+}
+
+// The end of Firmware CRC's count and its checksum.
+fn crc_ends(address: u32, bytes: &[u8]) -> Decision
+    requires { ⌜ length (now bytes) ≡ 257 ⌝ }
+    ensures { λ r. ⌜ r ≡ complete Step.CrcCount 3 address (now (bytes .entry)) [] ⌝ }
+{
+    let ok = bytes[2] == words::xor_from(0xFF, bytes, 2);
+    if ok {
+        command::sum(
+            Address(address),
+            LessOne(words::number2(bytes[0], bytes[1])).count(),
+        )
+    } else {
+        command::nack(Why::BadChecksum)
+    }
+}
+
+// A step whose bytes are all there.
+pub fn complete(step: Step, expected: usize, address: u32, bytes: &[u8], usd: &[u8]) -> Decision
+    requires { ⌜ T (expects step expected) × (length (now bytes) ≡ 257) × (length (now usd) ≡ 64) ⌝ }
+    ensures { λ r. ⌜ r ≡ complete step expected address (now (bytes .entry)) (now (usd .entry)) ⌝ }
+{
+    match step {
+        Step::Idle => command_ends(usd, bytes),
+        Step::ReadAddress => region_address(bytes, Step::ReadLength, crate::COMPLEMENTED_BYTE),
+        Step::JumpAddress => jump_address(bytes),
+        Step::WriteAddress => region_address(bytes, Step::WriteLength, crate::ONE_BYTE),
+        Step::CrcAddress => crc_address(bytes, Step::CrcCount, crate::CHECKED_COUNT),
+        Step::ReadLength => read_ends(address, bytes),
+        Step::WriteLength => awaits(Step::WriteData, bytes),
+        Step::WriteData => write_ends(usd, expected, address, bytes),
+        Step::EraseSelector => selector_ends(bytes),
+        Step::SpecialCheck => special_ends(usd, address, bytes),
+        Step::EraseList => erase_ends(usd, expected, bytes),
+        Step::ProtectLength => awaits(Step::ProtectList, bytes),
+        Step::ProtectList => protect_ends(expected, bytes),
+        Step::CrcCount => crc_ends(address, bytes),
+    }
+}

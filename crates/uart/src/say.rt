@@ -1,0 +1,178 @@
+ghost use mathlib.Core.Path.{_≡_};
+ghost use mathlib.Core.List.{[], _∷_, _++_};
+ghost use Prim.Native.Nat.{_+_, _≤_};
+ghost use lib.Dec.{T};
+ghost use lib.ListN.{length, take, drop};
+ghost use Rattle.words.specs.Bytes.{fourBytes};
+ghost use Rattle.words.specs.Lists.{join, part};
+ghost use Rattle.words.specs.Over.{put};
+ghost use Rattle.board.specs.Board.{extentOf};
+ghost use Rattle.crc.specs.Crc.{crc};
+ghost use Rattle.memories.specs.Memories.{memories, proper, bytesOf};
+ghost use Rattle.command.specs.Says.{ackByte, versionBytes, deviceBytes, says, sayable, Said};
+ghost use Rattle.uart.specs.Conversation.{commandBytes};
+use board::Board;
+use board::Region;
+use command::Reply;
+
+// ACK and NACK.
+pub const ACK: u8 = 0x79;
+
+pub const NACK: u8 = 0x1F;
+
+// Writes ACK and x bytes of a memory.
+fn say_bytes(memory: &[u8], at: usize, x: usize, buffer: &mut [u8]) -> usize
+    requires { ⌜ (x ≤ 256) × (at + x ≤ length (now memory)) × (257 ≤ length (now buffer)) ⌝ }
+    ensures { λ r. ⌜ (r ≡ x + 1) × (now (buffer .exit) ≡ put (now (buffer .entry)) 0 (ackByte ∷ part at x (now (memory .entry)))) ⌝ }
+{
+    buffer[0] = ACK;
+    words::copy(buffer, 1, memory, at, x);
+    x + 1
+}
+
+// Writes ACK and the four bytes of a checksum, high first.
+fn say_crc(value: u32, buffer: &mut [u8]) -> usize
+    requires { ⌜ 257 ≤ length (now buffer) ⌝ }
+    ensures { λ r. ⌜ (r ≡ 5) × (now (buffer .exit) ≡ put (now (buffer .entry)) 0 (ackByte ∷ fourBytes value)) ⌝ }
+{
+    let told = [
+        ACK,
+        (value / 16777216 % 256) as u8,
+        (value / 65536 % 256) as u8,
+        (value / 256 % 256) as u8,
+        (value % 256) as u8,
+    ];
+    words::copy(buffer, 0, &told, 0, 5);
+    5
+}
+
+// Writes x bytes of a region behind ACK.
+fn say_data(
+    region: Region,
+    at: usize,
+    x: usize,
+    flash: &[u8],
+    sram: &[u8],
+    usd: &[u8],
+    buffer: &mut [u8],
+) -> usize
+    requires { ⌜ T (proper (memories (now flash) (now sram) (now usd))) × (x ≤ 256) × (at + x ≤ extentOf region .bytes) × (257 ≤ length (now buffer)) ⌝ }
+    ensures { λ r. ⌜ (r ≡ x + 1) × (now (buffer .exit) ≡ put (now (buffer .entry)) 0 (ackByte ∷ part at x (bytesOf region (memories (now (flash .entry)) (now (sram .entry)) (now (usd .entry)))))) ⌝ }
+{
+    match region {
+        Region::Flash => say_bytes(flash, at, x, buffer),
+        Region::Sram => say_bytes(sram, at, x, buffer),
+        Region::Usd => say_bytes(usd, at, x, buffer),
+    }
+}
+
+// Writes what 0x00 tells, between two ACKs.
+fn say_commands(buffer: &mut [u8]) -> usize
+    requires { ⌜ 257 ≤ length (now buffer) ⌝ }
+    ensures { λ r. ⌜ (r ≡ 17) × (now (buffer .exit) ≡ put (now (buffer .entry)) 0 (ackByte ∷ commandBytes ++ ackByte ∷ [])) ⌝ }
+{
+    let told = [
+        ACK,
+        0x0E,
+        Board::VERSION,
+        0x00,
+        0x01,
+        0x02,
+        0x11,
+        0x21,
+        0x31,
+        0x44,
+        0x63,
+        0x73,
+        0x82,
+        0x92,
+        0xAC,
+        0xD4,
+        ACK,
+    ];
+    words::copy(buffer, 0, &told, 0, 17);
+    17
+}
+
+// Writes what 0x01 tells, between two ACKs.
+fn say_version(buffer: &mut [u8]) -> usize
+    requires { ⌜ 257 ≤ length (now buffer) ⌝ }
+    ensures { λ r. ⌜ (r ≡ 5) × (now (buffer .exit) ≡ put (now (buffer .entry)) 0 (ackByte ∷ versionBytes ++ ackByte ∷ [])) ⌝ }
+{
+    let told = [
+        ACK,
+        Board::VERSION,
+        Board::BID_FIRST,
+        Board::BID_SECOND,
+        ACK,
+    ];
+    words::copy(buffer, 0, &told, 0, 5);
+    5
+}
+
+// Writes what 0x02 tells, between two ACKs.
+fn say_device(buffer: &mut [u8]) -> usize
+    requires { ⌜ 257 ≤ length (now buffer) ⌝ }
+    ensures { λ r. ⌜ (r ≡ 8) × (now (buffer .exit) ≡ put (now (buffer .entry)) 0 (ackByte ∷ deviceBytes ++ ackByte ∷ [])) ⌝ }
+{
+    let told = [
+        ACK,
+        0x04,
+        (Board::PRODUCT / 256 % 256) as u8,
+        (Board::PRODUCT % 256) as u8,
+        (Board::PRODUCT / 16777216 % 256) as u8,
+        (Board::PRODUCT / 65536 % 256) as u8,
+        Board::PROJECT,
+        ACK,
+    ];
+    words::copy(buffer, 0, &told, 0, 8);
+    8
+}
+
+// Writes one byte.
+fn say_one(byte: u8, buffer: &mut [u8]) -> usize
+    requires { ⌜ 257 ≤ length (now buffer) ⌝ }
+    ensures { λ r. ⌜ (r ≡ 1) × (now (buffer .exit) ≡ put (now (buffer .entry)) 0 (byte ∷ [])) ⌝ }
+{
+    let told = [byte];
+    words::copy(buffer, 0, &told, 0, 1);
+    1
+}
+
+// Writes two bytes.
+fn say_two(first: u8, second: u8, buffer: &mut [u8]) -> usize
+    requires { ⌜ 257 ≤ length (now buffer) ⌝ }
+    ensures { λ r. ⌜ (r ≡ 2) × (now (buffer .exit) ≡ put (now (buffer .entry)) 0 (first ∷ second ∷ [])) ⌝ }
+{
+    let told = [first, second];
+    words::copy(buffer, 0, &told, 0, 2);
+    2
+}
+
+// Writes the checksum of n bytes of flash behind ACK.
+fn say_sum(flash: &[u8], at: usize, n: usize, buffer: &mut [u8]) -> usize
+    requires { ⌜ (at + n ≤ length (now flash)) × (257 ≤ length (now buffer)) ⌝ }
+    ensures { λ r. ⌜ (r ≡ 5) × (now (buffer .exit) ≡ put (now (buffer .entry)) 0 (ackByte ∷ fourBytes (crc (part at n (now (flash .entry)))))) ⌝ }
+{
+    let end = at + n;
+    say_crc(crc::crc(&flash[at..end]), buffer)
+}
+
+// Writes a reply that can be given, and tells its length.
+pub fn say(reply: Reply, flash: &[u8], sram: &[u8], usd: &[u8], buffer: &mut [u8]) -> usize
+    requires { ⌜ T (proper (memories (now flash) (now sram) (now usd))) × T (sayable reply) × (257 ≤ length (now buffer)) ⌝ }
+    ensures { λ r. ⌜ Said (join (says commandBytes reply (memories (now (flash .entry)) (now (sram .entry)) (now (usd .entry))))) r (now (buffer .entry)) (now (buffer .exit)) ⌝ }
+{
+    match reply {
+        Reply::Silence => 0,
+        Reply::Ack => say_one(ACK, buffer),
+        Reply::AckAck => say_two(ACK, ACK, buffer),
+        Reply::Nack(_) => say_one(NACK, buffer),
+        Reply::AckNack(_) => say_two(ACK, NACK, buffer),
+        Reply::Commands => say_commands(buffer),
+        Reply::Version => say_version(buffer),
+        Reply::DeviceId => say_device(buffer),
+        Reply::Data(region, at, x) => say_data(region, at, x, flash, sram, usd, buffer),
+        Reply::Crc(at, n) => say_sum(flash, at, n, buffer),
+    }
+}
