@@ -1,12 +1,12 @@
 ghost use mathlib.Core.Path.{_≡_};
 ghost use mathlib.Core.Bool.{true};
 ghost use Prim.Native.Nat.{_≤_};
-ghost use lib.Dec.{T};
+ghost use lib.Dec.{T, leb};
 ghost use lib.ListN.{length};
 ghost use Rattle.memories.specs.Memories.{memories, proper};
 ghost use Rattle.boot.specs.Session.{sound};
 ghost use Rattle.boot.specs.Decide.{decideByte};
-ghost use Rattle.boot.specs.Causes.{accepts, causeOf};
+ghost use Rattle.boot.specs.Causes.{accepts, uartRoom, causeOf};
 ghost use Rattle.boot.specs.Calls.{Byte, perform};
 ghost use Rattle.boot.specs.Promise.{left, stateOf, givenByte, Leaves, Took};
 use crate::Carrier;
@@ -76,6 +76,15 @@ impl Session {
         self.own_cause()
     }
 
+    // Why a byte is refused, if it is.
+    fn byte_cause(self, flash: &[u8], sram: &[u8], usd: &[u8], buffer: &[u8]) -> Cause
+        ensures { λ r. ⌜ r ≡ causeOf (proper (memories (now (flash .entry)) (now (sram .entry)) (now (usd .entry)))) (leb uartRoom (length (now (buffer .entry)))) true self ⌝ }
+    {
+        let lengths = proper(flash, sram, usd);
+        let room = UART_ROOM <= buffer.len();
+        self.cause(lengths, room, true)
+    }
+
     // A byte that is accepted is decided on, answered and carried out.
     fn accept_byte(
         self,
@@ -114,9 +123,7 @@ impl Session {
     ) -> Taken
         ensures { λ r. ⌜ Took (givenByte self byte (now (flash .entry)) (now (sram .entry)) (now (usd .entry)) (now (buffer .entry))) (left r (now (flash .exit)) (now (sram .exit)) (now (usd .exit)) (now (buffer .exit))) ⌝ }
     {
-        let lengths = proper(flash, sram, usd);
-        let room = UART_ROOM <= buffer.len();
-        let cause = self.cause(lengths, room, true);
+        let cause = self.byte_cause(flash, sram, usd, buffer);
         let accepted = cause.accepts();
         if accepted {
             self.accept_byte(byte, flash, sram, usd, buffer)
