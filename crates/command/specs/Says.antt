@@ -1,6 +1,6 @@
 -- What each reply says, message by message.
 use Prim.Native.Nat.{ℕ, _+_}
-use mathlib.Core.Bool.{Bool, true, _&&_}
+use mathlib.Core.Bool.{Bool, true, false, _&&_}
 use mathlib.Core.List.{List, [], _∷_, _++_}
 use mathlib.Core.Path.{_≡_}
 use lib.ListN.{length, drop}
@@ -53,6 +53,19 @@ says commands Version m = told versionBytes
 says commands DeviceId m = told deviceBytes
 says commands (Data r at x) m = ackMessage ∷ part at x (bytesOf r m) ∷ []
 says commands (Crc at n) m = ackMessage ∷ fourBytes (crc (part at n (m .flash))) ∷ []
+
+-- a reply tells nothing of a memory
+abbrev pub fixed : Reply → Bool
+fixed Silence = true
+fixed Ack = true
+fixed AckAck = true
+fixed (Nack w) = true
+fixed (AckNack w) = true
+fixed Commands = true
+fixed Version = true
+fixed DeviceId = true
+fixed (Data r at x) = false
+fixed (Crc at n) = false
 
 -- a reply can be given: its bytes of a memory are there, and no more than a command carries
 abbrev pub sayable : Reply → Bool

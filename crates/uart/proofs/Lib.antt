@@ -1,3 +1,4 @@
 pub mod Steps
 pub mod Good
+mod Fixed
 pub mod Rulings

@@ -1,15 +1,15 @@
 ghost use mathlib.Core.Path.{_≡_};
-ghost use mathlib.Core.List.{[], _∷_, _++_};
+ghost use mathlib.Core.List.{_∷_};
 ghost use Prim.Native.Nat.{_+_, _≤_};
 ghost use lib.Dec.{T};
-ghost use lib.ListN.{length, take, drop};
+ghost use lib.ListN.{length, take};
 ghost use Rattle.words.specs.Bytes.{fourBytes};
 ghost use Rattle.words.specs.Lists.{join, part};
 ghost use Rattle.words.specs.Over.{put};
 ghost use Rattle.board.specs.Board.{extentOf};
 ghost use Rattle.crc.specs.Crc.{crc};
-ghost use Rattle.memories.specs.Memories.{memories, proper, bytesOf};
-ghost use Rattle.command.specs.Says.{ackByte, versionBytes, deviceBytes, says, sayable, Said};
+ghost use Rattle.memories.specs.Memories.{Memories, memories, proper, bytesOf};
+ghost use Rattle.command.specs.Says.{ackByte, says, sayable, fixed, Said};
 ghost use Rattle.uart.specs.Conversation.{commandBytes};
 use board::Board;
 use board::Region;
@@ -19,6 +19,75 @@ use command::Reply;
 pub const ACK: u8 = 0x79;
 
 pub const NACK: u8 = 0x1F;
+
+// The bytes of the longest fixed reply, that to 0x00.
+const LONGEST: usize = 17;
+
+// ACK and NACK.
+const ACK_NACK: [u8; LONGEST] = [ACK, NACK, 0, 0, 0, 0, 0, 0, 0, 0, 0, 0, 0, 0, 0, 0, 0];
+
+// What 0x00 tells, between two ACKs.
+const COMMANDS: [u8; LONGEST] = [
+    ACK,
+    0x0E,
+    Board::VERSION,
+    0x00,
+    0x01,
+    0x02,
+    0x11,
+    0x21,
+    0x31,
+    0x44,
+    0x63,
+    0x73,
+    0x82,
+    0x92,
+    0xAC,
+    0xD4,
+    ACK,
+];
+
+// What 0x01 tells, between two ACKs.
+const VERSION: [u8; LONGEST] = [
+    ACK,
+    Board::VERSION,
+    Board::BID_FIRST,
+    Board::BID_SECOND,
+    ACK,
+    0,
+    0,
+    0,
+    0,
+    0,
+    0,
+    0,
+    0,
+    0,
+    0,
+    0,
+    0,
+];
+
+// What 0x02 tells, between two ACKs.
+const DEVICE: [u8; LONGEST] = [
+    ACK,
+    0x04,
+    (Board::PRODUCT / 256 % 256) as u8,
+    (Board::PRODUCT % 256) as u8,
+    (Board::PRODUCT / 16777216 % 256) as u8,
+    (Board::PRODUCT / 65536 % 256) as u8,
+    Board::PROJECT,
+    ACK,
+    0,
+    0,
+    0,
+    0,
+    0,
+    0,
+    0,
+    0,
+    0,
+];
 
 // Writes ACK and x bytes of a memory.
 fn say_bytes(memory: &[u8], at: usize, x: usize, buffer: &mut [u8]) -> usize
@@ -66,87 +135,51 @@ fn say_data(
     }
 }
 
-// Writes what 0x00 tells, between two ACKs.
-fn say_commands(buffer: &mut [u8]) -> usize
-    requires { ⌜ 257 ≤ length (now buffer) ⌝ }
-    ensures { λ r. ⌜ (r ≡ 17) × (now (buffer .exit) ≡ put (now (buffer .entry)) 0 (ackByte ∷ commandBytes ++ ackByte ∷ [])) ⌝ }
-{
-    let told = [
-        ACK,
-        0x0E,
-        Board::VERSION,
-        0x00,
-        0x01,
-        0x02,
-        0x11,
-        0x21,
-        0x31,
-        0x44,
-        0x63,
-        0x73,
-        0x82,
-        0x92,
-        0xAC,
-        0xD4,
-        ACK,
-    ];
-    words::copy(buffer, 0, &told, 0, 17);
-    17
+// A fixed reply: bytes, of which the first few are the reply, and how many these are.
+struct Fixed {
+    bytes: [u8; LONGEST],
+    count: usize,
 }
 
-// Writes what 0x01 tells, between two ACKs.
-fn say_version(buffer: &mut [u8]) -> usize
-    requires { ⌜ 257 ≤ length (now buffer) ⌝ }
-    ensures { λ r. ⌜ (r ≡ 5) × (now (buffer .exit) ≡ put (now (buffer .entry)) 0 (ackByte ∷ versionBytes ++ ackByte ∷ [])) ⌝ }
+// The bytes of a reply that tells nothing of a memory.
+fn fixed_bytes(reply: Reply) -> Fixed
+    requires { ⌜ T (fixed reply) ⌝ }
+    ensures { λ r. ⌜ (r .count ≤ 17) × (length (r .bytes) ≡ 17) × ((m : Memories) → take (r .count) (r .bytes) ≡ join (says commandBytes reply m)) ⌝ }
 {
-    let told = [
-        ACK,
-        Board::VERSION,
-        Board::BID_FIRST,
-        Board::BID_SECOND,
-        ACK,
-    ];
-    words::copy(buffer, 0, &told, 0, 5);
-    5
-}
-
-// Writes what 0x02 tells, between two ACKs.
-fn say_device(buffer: &mut [u8]) -> usize
-    requires { ⌜ 257 ≤ length (now buffer) ⌝ }
-    ensures { λ r. ⌜ (r ≡ 8) × (now (buffer .exit) ≡ put (now (buffer .entry)) 0 (ackByte ∷ deviceBytes ++ ackByte ∷ [])) ⌝ }
-{
-    let told = [
-        ACK,
-        0x04,
-        (Board::PRODUCT / 256 % 256) as u8,
-        (Board::PRODUCT % 256) as u8,
-        (Board::PRODUCT / 16777216 % 256) as u8,
-        (Board::PRODUCT / 65536 % 256) as u8,
-        Board::PROJECT,
-        ACK,
-    ];
-    words::copy(buffer, 0, &told, 0, 8);
-    8
-}
-
-// Writes one byte.
-fn say_one(byte: u8, buffer: &mut [u8]) -> usize
-    requires { ⌜ 257 ≤ length (now buffer) ⌝ }
-    ensures { λ r. ⌜ (r ≡ 1) × (now (buffer .exit) ≡ put (now (buffer .entry)) 0 (byte ∷ [])) ⌝ }
-{
-    let told = [byte];
-    words::copy(buffer, 0, &told, 0, 1);
-    1
-}
-
-// Writes two bytes.
-fn say_two(first: u8, second: u8, buffer: &mut [u8]) -> usize
-    requires { ⌜ 257 ≤ length (now buffer) ⌝ }
-    ensures { λ r. ⌜ (r ≡ 2) × (now (buffer .exit) ≡ put (now (buffer .entry)) 0 (first ∷ second ∷ [])) ⌝ }
-{
-    let told = [first, second];
-    words::copy(buffer, 0, &told, 0, 2);
-    2
+    match reply {
+        Reply::Ack => Fixed {
+            bytes: [ACK; LONGEST],
+            count: 1,
+        },
+        Reply::AckAck => Fixed {
+            bytes: [ACK; LONGEST],
+            count: 2,
+        },
+        Reply::Nack(_) => Fixed {
+            bytes: [NACK; LONGEST],
+            count: 1,
+        },
+        Reply::AckNack(_) => Fixed {
+            bytes: ACK_NACK,
+            count: 2,
+        },
+        Reply::Commands => Fixed {
+            bytes: COMMANDS,
+            count: LONGEST,
+        },
+        Reply::Version => Fixed {
+            bytes: VERSION,
+            count: 5,
+        },
+        Reply::DeviceId => Fixed {
+            bytes: DEVICE,
+            count: 8,
+        },
+        _ => Fixed {
+            bytes: [0; LONGEST],
+            count: 0,
+        },
+    }
 }
 
 // Writes the checksum of n bytes of flash behind ACK.
@@ -164,15 +197,13 @@ pub fn say(reply: Reply, flash: &[u8], sram: &[u8], usd: &[u8], buffer: &mut [u8
     ensures { λ r. ⌜ Said (join (says commandBytes reply (memories (now (flash .entry)) (now (sram .entry)) (now (usd .entry))))) r (now (buffer .entry)) (now (buffer .exit)) ⌝ }
 {
     match reply {
-        Reply::Silence => 0,
-        Reply::Ack => say_one(ACK, buffer),
-        Reply::AckAck => say_two(ACK, ACK, buffer),
-        Reply::Nack(_) => say_one(NACK, buffer),
-        Reply::AckNack(_) => say_two(ACK, NACK, buffer),
-        Reply::Commands => say_commands(buffer),
-        Reply::Version => say_version(buffer),
-        Reply::DeviceId => say_device(buffer),
         Reply::Data(region, at, x) => say_data(region, at, x, flash, sram, usd, buffer),
         Reply::Crc(at, n) => say_sum(flash, at, n, buffer),
+        _ => {
+            let told = fixed_bytes(reply);
+            let bytes = told.bytes;
+            words::copy(buffer, 0, &bytes, 0, told.count);
+            told.count
+        }
     }
 }

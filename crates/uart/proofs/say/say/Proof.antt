@@ -1,7 +1,8 @@
--- By the reply: each function writes what it says.
+-- By the reply: data and a checksum are written by their functions, and a fixed reply is copied from its bytes.
 use borrow.Author.Needs.{needs}
 use native.Mathlib.Omega.{arith}
-use mathlib.Core.Path.{_≡_, refl, _∙_}
+use native.Mathlib.Omega.{arith}
+use mathlib.Core.Path.{_≡_, _∙_}
 use mathlib.Core.List.{_∷_, append-nil}
 use native.Mathlib.Numerals.{add-one}
 use lib.ListN.{length}
@@ -13,6 +14,7 @@ use Rattle.memories.specs.Memories.{memories, bytesOf}
 use Rattle.memories.proofs.Memories.{proper-length}
 use Rattle.command.specs.Says.{says}
 use Rattle.command.proofs.Says.{data-there, crc-there}
+use Rattle.uart.proofs.Fixed.{rest-fixed, fixed-said}
 use Rattle.uart.proofs.say.say.Statement.{statement}
 use Rattle.uart.proofs.say.say.Tie as tie
 
@@ -22,40 +24,15 @@ say-spec =
     tie.close
     (tie.spec
     (λ c. search needs)
-    (λ c. search needs)
-    (λ c κs. search needs)
-    (λ c. search needs)
-    (λ c κs. search needs)
-    (λ c. search needs)
-    (λ c κs. search needs)
-    (λ c. search needs)
-    (λ c κs. search needs)
-    (λ c. search needs)
-    (λ c κs. search needs)
-    (λ c. search needs)
-    (λ c κs. search needs)
-    (λ c. search needs)
-    (λ c κs. search needs)
-    (λ c. search needs)
     (λ c κs. let h = data-there (c .before .before .before .before .before .before .before .before .args .reply) (c .before .before .before .before .before .before .before .before .pre .1) _ _ _ (c .before .before .reply .given .1) in (c .before .before .before .before .before .before .before .before .pre .0, h .0, h .1, omega arith))
     (λ c. search needs)
     (λ c κs. let h = crc-there (c .before .before .before .before .before .before .before .before .args .reply) (c .before .before .before .before .before .before .before .before .pre .1) _ _ (c .before .before .reply2 .given .1) in let l = proper-length (memories (c .before .before .before .before .before .before .before .before .args .flash .now) (c .before .before .before .before .before .before .before .before .args .sram .now) (c .before .before .before .before .before .before .before .before .args .usd .now)) (c .before .before .before .before .before .before .before .before .pre .0) Flash in (omega arith, omega arith))
-    (λ c. rw (c .enum-told .given .1) (record { count = refl; buffer = refl }))
+    (λ c κs. rest-fixed (c .before .before .before .before .before .args .reply) (c .match .keys3))
     (λ c. search needs)
-    (λ c. rw (c .before .before .before .before .enum-told2 .given .1) (record { count = c .before .before .say-one .ensures .0; buffer = c .before .before .say-one .ensures .1 ∙ put-front (c .before .before .before .before .before .before .before .before .before .before .args .buffer .now) _ (omega arith) }))
-    (λ c. search needs)
-    (λ c. rw (c .before .before .before .before .enum-told3 .given .1) (record { count = c .before .before .say-two .ensures .0; buffer = c .before .before .say-two .ensures .1 ∙ put-front (c .before .before .before .before .before .before .before .before .before .before .args .buffer .now) _ (omega arith) }))
-    (λ c. search needs)
-    (λ c. rw (c .before .before .before .before .enum-told4 .given .1) (record { count = c .before .before .say-one2 .ensures .0; buffer = c .before .before .say-one2 .ensures .1 ∙ put-front (c .before .before .before .before .before .before .before .before .before .before .args .buffer .now) _ (omega arith) }))
-    (λ c. search needs)
-    (λ c. rw (c .before .before .before .before .enum-told5 .given .1) (record { count = c .before .before .say-two2 .ensures .0; buffer = c .before .before .say-two2 .ensures .1 ∙ put-front (c .before .before .before .before .before .before .before .before .before .before .args .buffer .now) _ (omega arith) }))
-    (λ c. search needs)
-    (λ c. rw (c .before .before .before .before .enum-told6 .given .1) (record { count = c .before .before .say-commands .ensures .0; buffer = c .before .before .say-commands .ensures .1 ∙ put-front (c .before .before .before .before .before .before .before .before .before .before .args .buffer .now) _ (omega arith) }))
-    (λ c. search needs)
-    (λ c. rw (c .before .before .before .before .enum-told7 .given .1) (record { count = c .before .before .say-version .ensures .0; buffer = c .before .before .say-version .ensures .1 ∙ put-front (c .before .before .before .before .before .before .before .before .before .before .args .buffer .now) _ (omega arith) }))
-    (λ c. search needs)
-    (λ c. rw (c .before .before .before .before .enum-told8 .given .1) (record { count = c .before .before .say-device .ensures .0; buffer = c .before .before .say-device .ensures .1 ∙ put-front (c .before .before .before .before .before .before .before .before .before .before .args .buffer .now) _ (omega arith) }))
+    (λ c κs. (omega arith, omega (arith, c .before .before .before .fixed-bytes .ensures .1)))
     (λ c. search needs)
     (λ c. let g = c .before .before .before .before .before .reply .given .0 .0 in let at = c .before .before .before .before .before .reply .given .0 .1 .0 in let x = c .before .before .before .before .before .reply .given .0 .1 .1 .0 in let m = memories (c .before .before .before .before .before .before .before .before .before .before .before .args .flash .now) (c .before .before .before .before .before .before .before .before .before .before .before .args .sram .now) (c .before .before .before .before .before .before .before .before .before .before .before .args .usd .now) in let h = data-there (c .before .before .before .before .before .before .before .before .before .before .before .args .reply) (c .before .before .before .before .before .before .before .before .before .before .before .pre .1) g at x (c .before .before .before .before .before .reply .given .1) in let l : length (part at x (bytesOf g m)) ≡ x = length-part (bytesOf g m) at x (rw (proper-length m (c .before .before .before .before .before .before .before .before .before .before .before .pre .0) g) (h .1)) in rw (c .before .before .before .before .before .reply .given .1, append-nil (part at x (bytesOf g m))) (record { count = c .before .before .say-data .ensures .0 ∙ rw (l, add-one); buffer = c .before .before .say-data .ensures .1 ∙ put-front (c .before .before .before .before .before .before .before .before .before .before .before .args .buffer .now) (121 ∷ part at x (bytesOf g m)) (omega (arith, l, h .0)) }))
     (λ c. search needs)
-    (λ c. rw (c .before .before .before .before .before .reply2 .given .1) (record { count = c .before .before .say-sum .ensures .0; buffer = c .before .before .say-sum .ensures .1 ∙ put-front (c .before .before .before .before .before .before .before .before .before .before .before .args .buffer .now) _ (omega arith) })))
+    (λ c. rw (c .before .before .before .before .before .reply2 .given .1) (record { count = c .before .before .say-sum .ensures .0; buffer = c .before .before .say-sum .ensures .1 ∙ put-front (c .before .before .before .before .before .before .before .before .before .before .before .args .buffer .now) _ (omega arith) }))
+    (λ c. search needs)
+    (λ c. let r = c .before .before .before .before .before .before .fixed-bytes .result in let e = c .before .before .before .before .before .before .fixed-bytes .ensures in fixed-said (r .bytes) _ (c .before .before .before .before .before .before .before .before .before .before .before .before .args .buffer .now) _ (r .count) (omega (arith, e .0, e .1)) (omega (arith, e .0)) (e .2 (memories (c .before .before .before .before .before .before .before .before .before .before .before .before .args .flash .now) (c .before .before .before .before .before .before .before .before .before .before .before .before .args .sram .now) (c .before .before .before .before .before .before .before .before .before .before .before .before .args .usd .now))) (c .before .before .copy .ensures)))
