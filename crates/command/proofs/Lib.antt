@@ -4,3 +4,4 @@ pub mod Holds
 pub mod Good
 pub mod Rulings
 pub mod Says
+mod Arms

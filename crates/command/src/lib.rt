@@ -8,7 +8,7 @@ ghost use Rattle.board.specs.Quantities.{isSector, firstIndexed, firstNumbered}
 ghost use Rattle.board.specs.Regions.{touched};
 ghost use Rattle.board.specs.Usd.{writeProtected};
 ghost use Rattle.command.specs.Commands.{uartCommands, lookUp, protected};
-ghost use Rattle.command.specs.Decision.{answer, alter, nack, judged};
+ghost use Rattle.command.specs.Decision.{if_gives_else_, answer, alter, nack, judged};
 ghost use Rattle.command.specs.Rules.{unlessProtected, readAt, reading, writeVerdictAt, writeVerdict, afterWrite, writeAt, writing, selectorOf, eraseVerdict, erasing, eraseAllVerdict, protectVerdict, protecting, jumping, sumAt, summing};
 use board::Address;
 use board::Board;
@@ -150,6 +150,13 @@ pub fn nack(why: Why) -> Decision
     answer(Reply::Nack(why), Next::GoIdle)
 }
 
+// A decision that is accepted where a test holds, and else refused.
+pub fn accept_if(good: bool, decision: Decision, why: Why) -> Decision
+    ensures { λ r. ⌜ r ≡ (if good gives decision else nack why) ⌝ }
+{
+    if good { decision } else { nack(why) }
+}
+
 // A decision that a rule may forbid.
 pub fn judged(verdict: Verdict, decision: Decision) -> Decision
     ensures { λ r. ⌜ r ≡ judged verdict decision ⌝ }
@@ -165,20 +172,14 @@ pub fn is_protected(command: Command) -> bool
     ensures { λ r. ⌜ r ≡ protected command ⌝ }
 {
     match command {
-        Command::GetCommands => false,
-        Command::GetVersion => false,
-        Command::GetDeviceId => false,
-        Command::ReadMemory => true,
-        Command::Jump => true,
-        Command::WriteMemory => true,
-        Command::Erase => true,
-        Command::ProgramProtect => true,
-        Command::ProgramUnprotect => true,
-        Command::AccessProtect => true,
-        Command::AccessUnprotect => false,
-        Command::FirmwareCrc => false,
-        Command::ResetDevice => false,
-        Command::Speed => false,
+        Command::ReadMemory
+        | Command::Jump
+        | Command::WriteMemory
+        | Command::Erase
+        | Command::ProgramProtect
+        | Command::ProgramUnprotect
+        | Command::AccessProtect => true,
+        _ => false,
     }
 }
 
@@ -209,12 +210,11 @@ fn read_at(place: Place, x: usize) -> Decision
 pub fn read(address: Address, x: usize) -> Decision
     ensures { λ r. ⌜ r ≡ reading address x ⌝ }
 {
-    let known = Board::known(address);
-    if known {
-        read_at(Board::place(address, x), x)
-    } else {
-        nack(Why::BadAddress)
-    }
+    accept_if(
+        Board::known(address),
+        read_at(Board::place(address, x), x),
+        Why::BadAddress,
+    )
 }
 
 // Whether x bytes of flash from an offset on touch a write-protected sector.
@@ -437,12 +437,11 @@ pub fn protect(staged: &[u8], x: usize) -> Decision
 pub fn jump(address: Address) -> Decision
     ensures { λ r. ⌜ r ≡ jumping address ⌝ }
 {
-    let jumpable = Board::jumpable(address);
-    if jumpable {
-        answer(Reply::Ack, Next::Run(address.0))
-    } else {
-        nack(Why::BadAddress)
-    }
+    accept_if(
+        Board::jumpable(address),
+        answer(Reply::Ack, Next::Run(address.0)),
+        Why::BadAddress,
+    )
 }
 
 // The checksum of n bytes at their place, which has to be in flash.
@@ -452,8 +451,7 @@ fn sum_at(place: Place, n: usize) -> Decision
     match place {
         Place::In(region, at) => match region {
             Region::Flash => answer(Reply::Crc(at, n), Next::GoIdle),
-            Region::Sram => nack(Why::BadRange),
-            Region::Usd => nack(Why::BadRange),
+            _ => nack(Why::BadRange),
         },
         Place::Nowhere => nack(Why::BadRange),
     }
@@ -464,11 +462,10 @@ pub fn sum(address: Address, x: usize) -> Decision
     requires { ⌜ x ≤ 65536 ⌝ }
     ensures { λ r. ⌜ r ≡ summing address x ⌝ }
 {
-    let start = Board::sector_start(address);
-    if start {
-        let n = x * Board::SECTOR_BYTES;
-        sum_at(Board::place(address, n), n)
-    } else {
-        nack(Why::BadAddress)
-    }
+    let n = x * Board::SECTOR_BYTES;
+    accept_if(
+        Board::sector_start(address),
+        sum_at(Board::place(address, n), n),
+        Why::BadAddress,
+    )
 }

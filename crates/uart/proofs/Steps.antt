@@ -1,5 +1,5 @@
 -- The UART steps are numbered from 0 in their order, and each is read back from its number.
-use mathlib.Core.Path.{_≡_, refl}
+use mathlib.Core.Path.{_≡_, refl, ap, _∙_}
 use mathlib.Core.Bool.{_&&_}
 use mathlib.Core.List.{map}
 use Prim.Native.Nat.{ℕ, _+_, _%_, _≤_}
@@ -10,6 +10,8 @@ use Rattle.words.specs.Lists.{countFrom}
 use Rattle.words.proofs.Tests.{both-left, both-right}
 use Rattle.memories.specs.Effects.{largestCount}
 use Rattle.uart.specs.Steps.{stepNo, steps, stepOf, complementedByte, checkedAddress, oneByte, expectedFor, expects}
+use denote.Enum.Declared.{tagOf}
+use Rattle.uart.proofs.Step.{the-type}
 use Rattle.uart.specs.declared.Step.{Step}
 use Rattle.uart.specs.declared.Step.the-variants.{Idle, ReadAddress, JumpAddress, WriteAddress, CrcAddress, ReadLength, WriteLength, WriteData, EraseSelector, SpecialCheck, EraseList, ProtectLength, ProtectList, CrcCount}
 
@@ -64,3 +66,23 @@ at-most EraseList e t = omega (arith, numbered e t .1)
 at-most ProtectLength e t = omega (arith, eqb→eq e 1 t)
 at-most ProtectList e t = counted e t .1
 at-most CrcCount e t = omega (arith, eqb→eq e 3 t)
+
+-- a step is declared at its number
+pub declared-at : (s : Step) (n : ℕ) → tagOf the-type s ≡ n → s ≡ stepOf n
+declared-at s n e = by-step s ∙ ap stepOf e
+  where
+    by-step : (s : Step) → s ≡ stepOf (tagOf the-type s)
+    by-step Idle = refl
+    by-step ReadAddress = refl
+    by-step JumpAddress = refl
+    by-step WriteAddress = refl
+    by-step CrcAddress = refl
+    by-step ReadLength = refl
+    by-step WriteLength = refl
+    by-step WriteData = refl
+    by-step EraseSelector = refl
+    by-step SpecialCheck = refl
+    by-step EraseList = refl
+    by-step ProtectLength = refl
+    by-step ProtectList = refl
+    by-step CrcCount = refl

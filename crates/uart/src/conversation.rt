@@ -12,7 +12,7 @@ ghost use Rattle.command.specs.Decision.{if_gives_else_, answer, nack};
 ghost use Rattle.command.specs.Rules.{jumping};
 ghost use Rattle.command.specs.declared.Next.the-variants.{EnterAt};
 ghost use Rattle.command.specs.declared.Reply.the-variants.{Ack};
-ghost use Rattle.command.specs.declared.Why.the-variants.{BadAddress};
+ghost use Rattle.command.specs.declared.Why.the-variants.{BadAddress, BadChecksum};
 ghost use Rattle.uart.specs.Steps.{stepNo, expects};
 ghost use Rattle.uart.specs.Conversation.{complemented, checks, checksCounted, checksNumbered, goOn, awaits, obeyed, commanded, addressed, keptIf, selected, complete};
 use crate::Step;
@@ -98,14 +98,6 @@ fn complemented(bytes: &[u8]) -> bool
     words::is_complement(bytes[0], bytes[1])
 }
 
-// Whether the fifth byte is the XOR of the four of an address.
-fn address_checks(bytes: &[u8]) -> bool
-    requires { ⌜ length (now bytes) ≡ 257 ⌝ }
-    ensures { λ r. ⌜ r ≡ checks (take 4 (now (bytes .entry))) (getD (now (bytes .entry)) 4 0) ⌝ }
-{
-    bytes[4] == words::xor_from(0, bytes, 4)
-}
-
 // The address that the first four bytes write.
 fn address_in(bytes: &[u8]) -> Address
     requires { ⌜ length (now bytes) ≡ 257 ⌝ }
@@ -114,18 +106,27 @@ fn address_in(bytes: &[u8]) -> Address
     Address(words::number4(bytes[0], bytes[1], bytes[2], bytes[3]))
 }
 
+// What is decided on an address whose XOR, the fifth byte, is right.
+fn addressed(bytes: &[u8], decision: Decision) -> Decision
+    requires { ⌜ length (now bytes) ≡ 257 ⌝ }
+    ensures { λ r. ⌜ r ≡ (if checks (take 4 (now (bytes .entry))) (getD (now (bytes .entry)) 4 0) gives decision else nack BadChecksum) ⌝ }
+{
+    let right = bytes[4] == words::xor_from(0, bytes, 4);
+    command::accept_if(right, decision, Why::BadChecksum)
+}
+
 // An address that passes is kept, and a step is entered.
 fn kept(good: bool, step: Step, expected: usize, address: Address) -> Decision
     ensures { λ r. ⌜ r ≡ (if good gives answer Ack (EnterAt (stepNo step) expected (address .0)) else nack BadAddress) ⌝ }
 {
-    if good {
+    command::accept_if(
+        good,
         command::answer(
             Reply::Ack,
             Next::EnterAt(step.number(), expected, address.0),
-        )
-    } else {
-        command::nack(Why::BadAddress)
-    }
+        ),
+        Why::BadAddress,
+    )
 }
 
 // The end of the address of 0x11 or 0x31.
@@ -133,13 +134,8 @@ fn region_address(bytes: &[u8], next: Step, expected: usize) -> Decision
     requires { ⌜ length (now bytes) ≡ 257 ⌝ }
     ensures { λ r. ⌜ r ≡ addressed (keptIf known next expected) (now (bytes .entry)) ⌝ }
 {
-    let ok = address_checks(bytes);
-    if ok {
-        let address = address_in(bytes);
-        kept(Board::known(address), next, expected, address)
-    } else {
-        command::nack(Why::BadChecksum)
-    }
+    let address = address_in(bytes);
+    addressed(bytes, kept(Board::known(address), next, expected, address))
 }
 
 // The end of the address of 0xAC.
@@ -147,13 +143,11 @@ fn crc_address(bytes: &[u8], next: Step, expected: usize) -> Decision
     requires { ⌜ length (now bytes) ≡ 257 ⌝ }
     ensures { λ r. ⌜ r ≡ addressed (keptIf sectorStart next expected) (now (bytes .entry)) ⌝ }
 {
-    let ok = address_checks(bytes);
-    if ok {
-        let address = address_in(bytes);
-        kept(Board::sector_start(address), next, expected, address)
-    } else {
-        command::nack(Why::BadChecksum)
-    }
+    let address = address_in(bytes);
+    addressed(
+        bytes,
+        kept(Board::sector_start(address), next, expected, address),
+    )
 }
 
 // The end of the address of 0x21.
@@ -161,12 +155,7 @@ fn jump_address(bytes: &[u8]) -> Decision
     requires { ⌜ length (now bytes) ≡ 257 ⌝ }
     ensures { λ r. ⌜ r ≡ addressed jumping (now (bytes .entry)) ⌝ }
 {
-    let ok = address_checks(bytes);
-    if ok {
-        command::jump(address_in(bytes))
-    } else {
-        command::nack(Why::BadChecksum)
-    }
+    addressed(bytes, command::jump(address_in(bytes)))
 }
 
 // The count that a byte sends as one less.
@@ -228,12 +217,11 @@ fn command_ends(usd: &[u8], bytes: &[u8]) -> Decision
     requires { ⌜ (length (now usd) ≡ 64) × (length (now bytes) ≡ 257) ⌝ }
     ensures { λ r. ⌜ r ≡ complete Step.Idle 2 0 (now (bytes .entry)) (now (usd .entry)) ⌝ }
 {
-    let ok = complemented(bytes);
-    if ok {
-        commanded(usd, look_up(bytes[0]))
-    } else {
-        command::nack(Why::BadComplement)
-    }
+    command::accept_if(
+        complemented(bytes),
+        commanded(usd, look_up(bytes[0])),
+        Why::BadComplement,
+    )
 }
 
 // The end of a read's length and its complement.
@@ -241,12 +229,11 @@ fn read_ends(address: u32, bytes: &[u8]) -> Decision
     requires { ⌜ length (now bytes) ≡ 257 ⌝ }
     ensures { λ r. ⌜ r ≡ complete Step.ReadLength 2 address (now (bytes .entry)) [] ⌝ }
 {
-    let ok = complemented(bytes);
-    if ok {
-        command::read(Address(address), count_of(bytes[0]))
-    } else {
-        command::nack(Why::BadChecksum)
-    }
+    command::accept_if(
+        complemented(bytes),
+        command::read(Address(address), count_of(bytes[0])),
+        Why::BadChecksum,
+    )
 }
 
 // The end of a write's data and their checksum.
@@ -255,12 +242,11 @@ fn write_ends(usd: &[u8], expected: usize, address: u32, bytes: &[u8]) -> Decisi
     ensures { λ r. ⌜ r ≡ complete Step.WriteData expected address (now (bytes .entry)) (now (usd .entry)) ⌝ }
 {
     let x = expected - 1;
-    let ok = checks_counted(bytes, x);
-    if ok {
-        command::write(usd, Address(address), x)
-    } else {
-        command::nack(Why::BadChecksum)
-    }
+    command::accept_if(
+        checks_counted(bytes, x),
+        command::write(usd, Address(address), x),
+        Why::BadChecksum,
+    )
 }
 
 // The end of an erase's selector.
@@ -285,15 +271,14 @@ fn special_ends(usd: &[u8], address: u32, bytes: &[u8]) -> Decision
     requires { ⌜ (length (now usd) ≡ 64) × (length (now bytes) ≡ 257) ⌝ }
     ensures { λ r. ⌜ r ≡ complete Step.SpecialCheck 1 address (now (bytes .entry)) (now (usd .entry)) ⌝ }
 {
-    let ok = special_checks(address, bytes[0]);
-    if ok {
+    command::accept_if(
+        special_checks(address, bytes[0]),
         command::judged(
             command::erase_all_verdict(usd, address),
             command::alter(Reply::Ack, Change::EraseAll, Next::GoIdle),
-        )
-    } else {
-        command::nack(Why::BadChecksum)
-    }
+        ),
+        Why::BadChecksum,
+    )
 }
 
 // The end of an erase's numbers and their checksum.
@@ -302,12 +287,11 @@ fn erase_ends(usd: &[u8], expected: usize, bytes: &[u8]) -> Decision
     ensures { λ r. ⌜ r ≡ complete Step.EraseList expected 0 (now (bytes .entry)) (now (usd .entry)) ⌝ }
 {
     let x = (expected - 1) / 2;
-    let ok = checks_numbered(bytes, x);
-    if ok {
-        command::erase(usd, bytes, x)
-    } else {
-        command::nack(Why::BadChecksum)
-    }
+    command::accept_if(
+        checks_numbered(bytes, x),
+        command::erase(usd, bytes, x),
+        Why::BadChecksum,
+    )
 }
 
 // The end of the indexes of 0x63 and their checksum.
@@ -316,12 +300,11 @@ fn protect_ends(expected: usize, bytes: &[u8]) -> Decision
     ensures { λ r. ⌜ r ≡ complete Step.ProtectList expected 0 (now (bytes .entry)) [] ⌝ }
 {
     let x = expected - 1;
-    let ok = checks_counted(bytes, x);
-    if ok {
-        command::protect(bytes, x)
-    } else {
-        command::nack(Why::BadChecksum)
-    }
+    command::accept_if(
+        checks_counted(bytes, x),
+        command::protect(bytes, x),
+        Why::BadChecksum,
+    )
 }
 
 // The end of Firmware CRC's count and its checksum.
@@ -329,15 +312,14 @@ fn crc_ends(address: u32, bytes: &[u8]) -> Decision
     requires { ⌜ length (now bytes) ≡ 257 ⌝ }
     ensures { λ r. ⌜ r ≡ complete Step.CrcCount 3 address (now (bytes .entry)) [] ⌝ }
 {
-    let ok = bytes[2] == words::xor_from(0xFF, bytes, 2);
-    if ok {
+    command::accept_if(
+        bytes[2] == words::xor_from(0xFF, bytes, 2),
         command::sum(
             Address(address),
             LessOne(words::number2(bytes[0], bytes[1])).count(),
-        )
-    } else {
-        command::nack(Why::BadChecksum)
-    }
+        ),
+        Why::BadChecksum,
+    )
 }
 
 // A step whose bytes are all there.

@@ -89,19 +89,14 @@ impl Step {
         ensures { λ r. ⌜ r ≡ expects self n ⌝ }
     {
         match self {
-            Step::Idle => n == COMPLEMENTED_BYTE,
-            Step::ReadAddress => n == CHECKED_ADDRESS,
-            Step::JumpAddress => n == CHECKED_ADDRESS,
-            Step::WriteAddress => n == CHECKED_ADDRESS,
-            Step::CrcAddress => n == CHECKED_ADDRESS,
-            Step::ReadLength => n == COMPLEMENTED_BYTE,
-            Step::WriteLength => n == ONE_BYTE,
-            Step::WriteData => (2 <= n) & (n <= 257),
+            Step::Idle | Step::ReadLength => n == COMPLEMENTED_BYTE,
+            Step::ReadAddress | Step::JumpAddress | Step::WriteAddress | Step::CrcAddress => {
+                n == CHECKED_ADDRESS
+            }
+            Step::WriteLength | Step::SpecialCheck | Step::ProtectLength => n == ONE_BYTE,
+            Step::WriteData | Step::ProtectList => (2 <= n) & (n <= 257),
             Step::EraseSelector => n == SELECTOR_BYTES,
-            Step::SpecialCheck => n == ONE_BYTE,
             Step::EraseList => (3 <= n) & (n <= 2 * Board::SECTORS + 1) & (n % 2 == 1),
-            Step::ProtectLength => n == ONE_BYTE,
-            Step::ProtectList => (2 <= n) & (n <= 257),
             Step::CrcCount => n == CHECKED_COUNT,
         }
     }

@@ -1,13 +1,11 @@
--- By the test of the address, and then by the place.
+-- The address is known, and its bytes have a place.
 use borrow.Author.Needs.{needs}
-use mathlib.Core.Path.{sym, _∙_}
-use Rattle.command.specs.Decision.{if_gives_else_}
 use Rattle.command.specs.Rules.{reading}
 use Rattle.command.proofs.read.Statement.{statement}
 use Rattle.command.proofs.read.Tie as tie
 
 pub read-spec : {M : Type 1} → statement M
-unfolding reading if_gives_else_
+unfolding reading
 read-spec =
     tie.close
     (tie.spec
@@ -15,5 +13,4 @@ read-spec =
     (λ c κs. search needs)
     (λ c κs. search needs)
     (λ c κs. search needs)
-    (λ c. rw (sym (c .before .before .before .known .ensures) ∙ c .before .before .if1 .taken, ← c .before .place .ensures) (c .read-at .ensures))
-    (λ c. rw (sym (c .before .before .known .ensures) ∙ c .before .if1 .left) (c .nack .ensures)))
+    (λ c. rw (← c .before .before .before .known .ensures, ← c .before .before .place .ensures, ← c .before .read-at .ensures) (c .accept-if .ensures)))

@@ -1,5 +1,7 @@
--- By the step: each test is the rule's.
+-- By the arms: each says what its steps expect.
 use borrow.Author.Needs.{needs}
+use mathlib.Core.Logic.{⊎-elim}
+use Rattle.uart.proofs.Steps.{declared-at}
 use Rattle.uart.proofs.Step.expects.Statement.{statement}
 use Rattle.uart.proofs.Step.expects.Tie as tie
 
@@ -12,28 +14,10 @@ expects-spec =
     (λ c. search needs)
     (λ c. search needs)
     (λ c. search needs)
-    (λ c. search needs)
-    (λ c. search needs)
-    (λ c. search needs)
-    (λ c. search needs)
-    (λ c. search needs)
-    (λ c. search needs)
-    (λ c. search needs)
-    (λ c. search needs)
-    (λ c. search needs)
-    (λ c. search needs)
-    (λ c. search needs)
+    (λ c. ⊎-elim (λ h. rw (declared-at (c .before .args .self) 0 h)) (λ h. rw (declared-at (c .before .args .self) 5 h)) (c .match .keys1))
+    (λ c. ⊎-elim (λ h. rw (declared-at (c .before .args .self) 1 h)) (⊎-elim (λ h. rw (declared-at (c .before .args .self) 2 h)) (⊎-elim (λ h. rw (declared-at (c .before .args .self) 3 h)) (λ h. rw (declared-at (c .before .args .self) 4 h)))) (c .match .keys2))
+    (λ c. ⊎-elim (λ h. rw (declared-at (c .before .args .self) 6 h)) (⊎-elim (λ h. rw (declared-at (c .before .args .self) 9 h)) (λ h. rw (declared-at (c .before .args .self) 11 h))) (c .match .keys3))
+    (λ c. ⊎-elim (λ h. rw (declared-at (c .before .args .self) 7 h)) (λ h. rw (declared-at (c .before .args .self) 12 h)) (c .match .keys4))
     (λ c. rw (c .enum-told .given .1))
     (λ c. rw (c .enum-told2 .given .1))
-    (λ c. rw (c .enum-told3 .given .1))
-    (λ c. rw (c .enum-told4 .given .1))
-    (λ c. rw (c .enum-told5 .given .1))
-    (λ c. rw (c .enum-told6 .given .1))
-    (λ c. rw (c .enum-told7 .given .1))
-    (λ c. rw (c .enum-told8 .given .1))
-    (λ c. rw (c .enum-told9 .given .1))
-    (λ c. rw (c .enum-told10 .given .1))
-    (λ c. rw (c .enum-told11 .given .1))
-    (λ c. rw (c .enum-told12 .given .1))
-    (λ c. rw (c .enum-told13 .given .1))
-    (λ c. rw (c .enum-told14 .given .1)))
+    (λ c. rw (c .enum-told3 .given .1)))

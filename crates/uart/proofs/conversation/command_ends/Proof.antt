@@ -1,13 +1,11 @@
--- By the complement, and then by the command.
+-- The command is looked up, if its complement is right.
 use borrow.Author.Needs.{needs}
-use mathlib.Core.Path.{sym, _∙_}
-use Rattle.command.specs.Decision.{if_gives_else_}
 use Rattle.uart.specs.Conversation.{complete}
 use Rattle.uart.proofs.conversation.command_ends.Statement.{statement}
 use Rattle.uart.proofs.conversation.command_ends.Tie as tie
 
 pub command-ends-spec : {M : Type 1} → statement M
-unfolding complete if_gives_else_
+unfolding complete
 command-ends-spec =
     tie.close
     (tie.spec
@@ -16,5 +14,4 @@ command-ends-spec =
     (λ c κs. search needs)
     (λ c κs. search needs)
     (λ c κs. search needs)
-    (λ c. rw (sym (c .before .before .before .before .complemented .ensures) ∙ c .before .before .before .if1 .taken, ← c .before .look-up .ensures) (c .commanded .ensures))
-    (λ c. rw (sym (c .before .before .complemented .ensures) ∙ c .before .if1 .left) (c .nack .ensures)))
+    (λ c. rw (← c .before .before .before .before .complemented .ensures, ← c .before .before .look-up .ensures, ← c .before .commanded .ensures) (c .accept-if .ensures)))

@@ -1,14 +1,13 @@
--- By the checksum, and then by the test of the address.
+-- The address is decided on by whether a sector starts there.
 use borrow.Author.Needs.{needs}
-use mathlib.Core.Path.{sym, ap, _∙_}
+use mathlib.Core.Path.{ap}
 use Rattle.board.specs.declared.Address.{Address}
-use Rattle.command.specs.Decision.{if_gives_else_}
 use Rattle.uart.specs.Conversation.{addressed, keptIf}
 use Rattle.uart.proofs.conversation.crc_address.Statement.{statement}
 use Rattle.uart.proofs.conversation.crc_address.Tie as tie
 
 pub crc-address-spec : {M : Type 1} → statement M
-unfolding addressed keptIf if_gives_else_
+unfolding addressed keptIf
 crc-address-spec =
     tie.close
     (tie.spec
@@ -16,6 +15,4 @@ crc-address-spec =
     (λ c κs. search needs)
     (λ c κs. search needs)
     (λ c κs. search needs)
-    (λ c κs. search needs)
-    (λ c. rw (sym (c .before .before .before .before .address-checks .ensures) ∙ c .before .before .before .if1 .taken, ← c .before .before .address-in .ensures, ← ap (λ (a : Address). a .0) (c .before .before .address-in .ensures), ← c .before .sector-start .ensures) (c .kept .ensures))
-    (λ c. rw (sym (c .before .before .address-checks .ensures) ∙ c .before .if1 .left) (c .nack .ensures)))
+    (λ c. rw (← c .before .before .before .address-in .ensures, ← ap (λ (a : Address). a .0) (c .before .before .before .address-in .ensures), ← c .before .before .sector-start .ensures, ← c .before .kept .ensures) (c .addressed .ensures)))

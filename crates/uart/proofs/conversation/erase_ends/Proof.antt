@@ -1,13 +1,11 @@
--- By the checksum, and then by the rule of an erase.
+-- The sectors named are erased, if the checksum is right.
 use borrow.Author.Needs.{needs}
-use mathlib.Core.Path.{sym, _∙_}
-use Rattle.command.specs.Decision.{if_gives_else_}
 use Rattle.uart.specs.Conversation.{complete}
 use Rattle.uart.proofs.conversation.erase_ends.Statement.{statement}
 use Rattle.uart.proofs.conversation.erase_ends.Tie as tie
 
 pub erase-ends-spec : {M : Type 1} → statement M
-unfolding complete if_gives_else_
+unfolding complete
 erase-ends-spec =
     tie.close
     (tie.spec
@@ -15,5 +13,4 @@ erase-ends-spec =
     (λ c κs. search needs)
     (λ c κs. search needs)
     (λ c κs. search needs)
-    (λ c. rw (sym (c .before .before .checks-numbered .ensures) ∙ c .before .if1 .taken) (c .erase .ensures))
-    (λ c. rw (sym (c .before .before .checks-numbered .ensures) ∙ c .before .if1 .left) (c .nack .ensures)))
+    (λ c. rw (← c .before .before .checks-numbered .ensures, ← c .before .erase .ensures) (c .accept-if .ensures)))
