@@ -1,7 +1,10 @@
 -- What an accepted call has, and what an accepted and a refused call leave.
 use mathlib.Core.Path.{_≡_, refl, sym, subst}
 use mathlib.Core.Bool.{Bool, true, false, not}
+use mathlib.Core.List.{[], _∷_}
 use Prim.Native.Nat.{ℕ}
+use denote.Enum.Declared.{tagOf}
+use types.Run.{OneOf, miss}
 use lib.Dec.{T}
 use Rattle.words.specs.Choice.{if_then_else_}
 use Rattle.boot.specs.Session.{on, sound}
@@ -12,6 +15,7 @@ use Rattle.boot.specs.declared.Carrier.the-variants.{Running}
 use Rattle.boot.specs.declared.Cause.{Cause}
 use Rattle.boot.specs.declared.Cause.the-variants.{Accepted, WrongMemory, ShortReply, BadFrame, UnsoundSession, BoardRunning}
 use Rattle.boot.specs.declared.Session.{Session}
+use Rattle.boot.proofs.Cause.{the-type}
 
 -- memories with their lengths, room for the reply, a well-formed frame and a sound session
 pub record Clear (memories room frame sounds : Bool) : Type 0 where
@@ -19,6 +23,15 @@ pub record Clear (memories room frame sounds : Bool) : Type 0 where
   pub enough : T room
   pub formed : T frame
   pub firm : T sounds
+
+-- every cause but the first refuses
+pub refusing : (c : Cause) → OneOf (1 ∷ 2 ∷ 3 ∷ 4 ∷ 5 ∷ []) (tagOf the-type c) → false ≡ accepts c
+refusing Accepted k = absurd (miss (1 ∷ 2 ∷ 3 ∷ 4 ∷ 5 ∷ []) 0 tt k)
+refusing WrongMemory k = refl
+refusing ShortReply k = refl
+refusing BadFrame k = refl
+refusing UnsoundSession k = refl
+refusing BoardRunning k = refl
 
 -- an accepted call is clear of every cause
 pub accepted-clear : (m r f : Bool) (s : Session) → accepts (causeOf m r f s) ≡ true → Clear m r f (sound s)

@@ -1,8 +1,9 @@
 ghost use mathlib.Core.Path.{_≡_};
-ghost use mathlib.Core.Bool.{true};
+ghost use mathlib.Core.Bool.{true, _&&_};
 ghost use Prim.Native.Nat.{_≤_};
-ghost use lib.Dec.{T, leb};
+ghost use lib.Dec.{T, eqb, leb};
 ghost use lib.ListN.{length};
+ghost use Rattle.board.specs.Board.{extentOf};
 ghost use Rattle.memories.specs.Memories.{memories, proper};
 ghost use Rattle.boot.specs.Session.{sound};
 ghost use Rattle.boot.specs.Decide.{decideByte};
@@ -14,18 +15,10 @@ use crate::Cause;
 use crate::Session;
 use crate::Taken;
 use board::Board;
+use board::Region;
 
 // The room that a reply on UART may need.
 pub const UART_ROOM: usize = 257;
-
-// Whether three memories have their lengths.
-fn proper(flash: &[u8], sram: &[u8], usd: &[u8]) -> bool
-    ensures { λ r. ⌜ r ≡ proper (memories (now (flash .entry)) (now (sram .entry)) (now (usd .entry))) ⌝ }
-{
-    (flash.len() == Board::FLASH_BYTES)
-        & (sram.len() == Board::SRAM_BYTES)
-        & (usd.len() == Board::USD_BYTES)
-}
 
 impl Cause {
     // Whether the call is accepted.
@@ -34,11 +27,7 @@ impl Cause {
     {
         match self {
             Cause::Accepted => true,
-            Cause::WrongMemory => false,
-            Cause::ShortReply => false,
-            Cause::BadFrame => false,
-            Cause::UnsoundSession => false,
-            Cause::BoardRunning => false,
+            _ => false,
         }
     }
 }
@@ -76,13 +65,14 @@ impl Session {
         self.own_cause()
     }
 
-    // Why a byte is refused, if it is.
-    fn byte_cause(self, flash: &[u8], sram: &[u8], usd: &[u8], buffer: &[u8]) -> Cause
-        ensures { λ r. ⌜ r ≡ causeOf (proper (memories (now (flash .entry)) (now (sram .entry)) (now (usd .entry)))) (leb uartRoom (length (now (buffer .entry)))) true self ⌝ }
+    // Why a byte is refused, if it is, given the lengths of what is lent.
+    fn byte_cause(self, flash: usize, sram: usize, usd: usize, room: usize) -> Cause
+        ensures { λ r. ⌜ r ≡ causeOf (eqb flash (extentOf Region.Flash .bytes) && eqb sram (extentOf Region.Sram .bytes) && eqb usd (extentOf Region.Usd .bytes)) (leb uartRoom room) true self ⌝ }
     {
-        let lengths = proper(flash, sram, usd);
-        let room = UART_ROOM <= buffer.len();
-        self.cause(lengths, room, true)
+        let lengths = (flash == Board::FLASH_BYTES)
+            & (sram == Board::SRAM_BYTES)
+            & (usd == Board::USD_BYTES);
+        self.cause(lengths, UART_ROOM <= room, true)
     }
 
     // A byte that is accepted is decided on, answered and carried out.
@@ -123,7 +113,7 @@ impl Session {
     ) -> Taken
         ensures { λ r. ⌜ Took (givenByte self byte (now (flash .entry)) (now (sram .entry)) (now (usd .entry)) (now (buffer .entry))) (left r (now (flash .exit)) (now (sram .exit)) (now (usd .exit)) (now (buffer .exit))) ⌝ }
     {
-        let cause = self.byte_cause(flash, sram, usd, buffer);
+        let cause = self.byte_cause(flash.len(), sram.len(), usd.len(), buffer.len());
         let accepted = cause.accepts();
         if accepted {
             self.accept_byte(byte, flash, sram, usd, buffer)

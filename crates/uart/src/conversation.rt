@@ -1,7 +1,7 @@
 ghost use mathlib.Core.Path.{_≡_};
 ghost use mathlib.Core.List.{[]};
-ghost use Prim.Native.Nat.{_≤_};
-ghost use lib.Dec.{T};
+ghost use Prim.Native.Nat.{_+_, _≤_, _<_};
+ghost use lib.Dec.{T, ltb};
 ghost use lib.ListN.{length, getD, take};
 ghost use Rattle.words.specs.Bytes.{number, twoBytes};
 ghost use Rattle.board.specs.Board.{address};
@@ -10,10 +10,10 @@ ghost use Rattle.board.specs.Regions.{known, sectorStart};
 ghost use Rattle.command.specs.Commands.{uartCommands, lookUp};
 ghost use Rattle.command.specs.Decision.{if_gives_else_, answer, nack};
 ghost use Rattle.command.specs.Rules.{jumping};
-ghost use Rattle.command.specs.declared.Next.the-variants.{EnterAt};
-ghost use Rattle.command.specs.declared.Reply.the-variants.{Ack};
+ghost use Rattle.command.specs.declared.Next.the-variants.{Gather, EnterAt};
+ghost use Rattle.command.specs.declared.Reply.the-variants.{Silence, Ack};
 ghost use Rattle.command.specs.declared.Why.the-variants.{BadAddress, BadChecksum};
-ghost use Rattle.uart.specs.Steps.{stepNo, expects};
+ghost use Rattle.uart.specs.Steps.{stepNo, stepOf, expects};
 ghost use Rattle.uart.specs.Conversation.{complemented, checks, checksCounted, checksNumbered, goOn, awaits, obeyed, commanded, addressed, keptIf, selected, complete};
 use crate::Step;
 use board::Address;
@@ -323,7 +323,7 @@ fn crc_ends(address: u32, bytes: &[u8]) -> Decision
 }
 
 // A step whose bytes are all there.
-pub fn complete(step: Step, expected: usize, address: u32, bytes: &[u8], usd: &[u8]) -> Decision
+fn complete(step: Step, expected: usize, address: u32, bytes: &[u8], usd: &[u8]) -> Decision
     requires { ⌜ T (expects step expected) × (length (now bytes) ≡ 257) × (length (now usd) ≡ 64) ⌝ }
     ensures { λ r. ⌜ r ≡ complete step expected address (now (bytes .entry)) (now (usd .entry)) ⌝ }
 {
@@ -342,5 +342,25 @@ pub fn complete(step: Step, expected: usize, address: u32, bytes: &[u8], usd: &[
         Step::ProtectLength => awaits(Step::ProtectList, bytes),
         Step::ProtectList => protect_ends(expected, bytes),
         Step::CrcCount => crc_ends(address, bytes),
+    }
+}
+
+// What one more byte decides: it is gathered, or ends its step.
+pub fn heard(
+    step: u8,
+    taken: usize,
+    expected: usize,
+    address: u32,
+    bytes: &[u8],
+    usd: &[u8],
+) -> Decision
+    requires { ⌜ (taken < expected) × T (expects (stepOf step) expected) × (length (now bytes) ≡ 257) × (length (now usd) ≡ 64) ⌝ }
+    ensures { λ r. ⌜ r ≡ (if ltb (taken + 1) expected gives answer Silence Gather else complete (stepOf step) expected address (now (bytes .entry)) (now (usd .entry))) ⌝ }
+{
+    let more = taken + 1 < expected;
+    if more {
+        command::answer(Reply::Silence, Next::Gather)
+    } else {
+        complete(Step::of(step), expected, address, bytes, usd)
     }
 }

@@ -1,18 +1,24 @@
--- The tests are the rule's, in its order.
+-- The tests are the rule's, in its order; the bytes that are heard are those of the session with the byte taken.
 use borrow.Author.Needs.{needs}
+use native.Mathlib.Omega.{arith}
+use native.Mathlib.Omega.{arith}
+use mathlib.Core.Path.{ap}
 use Rattle.command.specs.Decision.{if_gives_else_}
+use Rattle.uart.specs.Conversation as UC
 use Rattle.boot.specs.Decide.{connected, decideByte}
+use Rattle.boot.specs.declared.Session.{Session}
+use Rattle.boot.proofs.Sound.{sound-taken, uart-expects}
 use Rattle.boot.proofs.Session.decide_byte.Statement.{statement}
 use Rattle.boot.proofs.Session.decide_byte.Tie as tie
 
 pub decide-byte-spec : {M : Type 1} → statement M
-unfolding decideByte connected if_gives_else_
+unfolding decideByte connected UC.heard if_gives_else_
 decide-byte-spec =
     tie.close
     (tie.spec
     (λ c κs. search needs)
-    (λ c κs. (c .before .before .before .before .pre .0, rw (← c .before .before .number .ensures, c .if1 .taken) tt, c .before .before .before .before .pre .1, c .before .before .before .before .pre .2))
-    (λ c. rw (← c .before .before .before .number .ensures, c .before .if1 .taken) (c .hear-byte .ensures))
+    (λ c κs. (sound-taken (c .before .before .before .before .before .before .before .args .self) (c .before .before .before .before .before .before .before .pre .0), uart-expects (c .before .before .before .before .before .before .before .args .self) (c .before .before .before .before .before .before .before .pre .0) (rw (← c .before .before .before .before .before .number .ensures, c .before .before .before .if1 .taken) tt), omega arith, omega arith))
+    (λ c. rw (rw (c .before .before .before .before .before .before .number .ensures) at (c .before .before .before .before .if1 .taken), ← ap (λ (s : Session). s .staged) (c .before .before .before .before .before .before .before .before .pre .1)) (c .heard .ensures))
     (λ c κs. search needs)
     (λ c κs. search needs)
     (λ c κs. search needs)
