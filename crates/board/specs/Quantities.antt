@@ -19,6 +19,13 @@ lessOne n = record { 0 = n }
 abbrev pub countOf : LessOne → ℕ
 countOf n = n .0 + 1
 
+-- the largest count that one byte sends as one less, and the largest that two do
+abbrev pub largestCount : ℕ
+largestCount = 256
+
+abbrev pub largestLongCount : ℕ
+largestLongCount = 65536
+
 -- what is sent for a count
 abbrev pub oneLess : ℕ → LessOne
 oneLess x = lessOne (x - 1)
@@ -72,6 +79,10 @@ numbered bytes = map sector (pairs bytes)
 
 abbrev pub firstNumbered : ℕ → List ℕ → List Sector
 firstNumbered x bytes = numbered (take (2 * x) bytes)
+
+-- an address is sent in so many bytes
+abbrev pub addressBytes : ℕ
+addressBytes = 4
 
 -- how far an address lies behind a region's first one
 abbrev pub offsetIn : Extent → Address → ℕ

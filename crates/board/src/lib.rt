@@ -6,6 +6,7 @@ ghost use Rattle.words.specs.Lists.{any};
 ghost use Rattle.board.specs.Board.{flash, sram, usd, extentOf, sectors, layout, identity};
 ghost use Rattle.board.specs.Quantities.{countOf, startOf, offsetIn, isSector, sectorsFrom};
 ghost use Rattle.board.specs.Regions.{holds, placeOf, known, jumpable, sectorStart};
+ghost use Rattle.board.specs.declared.Region.the-variants.{Usd};
 ghost use Rattle.board.specs.Usd.{protectionOn, writeProtected};
 
 // A sector number.
@@ -250,7 +251,7 @@ impl Board {
 
     // Whether protection is on.
     pub fn protection_on(usd: &[u8]) -> bool
-        requires { ⌜ length (now usd) ≡ 64 ⌝ }
+        requires { ⌜ length (now usd) ≡ extentOf Usd .bytes ⌝ }
         ensures { λ r. ⌜ r ≡ protectionOn (now (usd .entry)) ⌝ }
     {
         usd[Board::PROTECTION] != Board::PROTECTION_OFF
@@ -258,7 +259,7 @@ impl Board {
 
     // Whether a sector is write-protected.
     pub fn write_protected(usd: &[u8], sector: Sector) -> bool
-        requires { ⌜ (length (now usd) ≡ 64) × T (isSector sector) ⌝ }
+        requires { ⌜ (length (now usd) ≡ extentOf Usd .bytes) × T (isSector sector) ⌝ }
         ensures { λ r. ⌜ r ≡ writeProtected (now (usd .entry)) sector ⌝ }
     {
         let k = sector.0;
@@ -269,7 +270,7 @@ impl Board {
 
     // Whether one of n sectors in order is write-protected.
     pub fn any_write_protected(usd: &[u8], first: Sector, n: usize) -> bool
-        requires { ⌜ (length (now usd) ≡ 64) × (first .0 + n ≤ 32) ⌝ }
+        requires { ⌜ (length (now usd) ≡ extentOf Usd .bytes) × (first .0 + n ≤ sectors .count) ⌝ }
         ensures { λ r. ⌜ r ≡ any (writeProtected (now (usd .entry))) (sectorsFrom first n) ⌝ }
     {
         let mut k = first.0;
@@ -286,6 +287,9 @@ impl Board {
 }
 
 impl LessOne {
+    // The largest count that one byte sends as one less.
+    pub const LARGEST: usize = 256;
+
     // The count that was sent as one less.
     pub fn count(self) -> usize
         ensures { λ r. ⌜ r ≡ countOf self ⌝ }

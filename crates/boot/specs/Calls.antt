@@ -19,7 +19,7 @@ use Rattle.can.specs.Conversation as CC
 use Rattle.can.specs.Frames.{classic, frameIn, carried, isFrame, framed}
 use Rattle.boot.specs.Session.{fresh, on, progress, gathered, after}
 use Rattle.boot.specs.Decide.{decideByte, decideFrame}
-use Rattle.boot.specs.Causes.{causeOf, accepts, uartRoom, canRoom}
+use Rattle.boot.specs.Causes.{causeOf, accepts}
 use Rattle.boot.specs.declared.Carrier.{Carrier}
 use Rattle.boot.specs.declared.Carrier.the-variants.{None, Uart, Can}
 use Rattle.boot.specs.declared.Cause.{Cause}
@@ -62,8 +62,8 @@ brings (Framed room l) = carried (frameIn l)
 -- why an input is refused, if it is
 unfoldable pub causeFor : Input → State → Cause
 causeFor Power p = Accepted
-causeFor (Byte room b) p = causeOf (proper (p .memories)) (leb uartRoom room) true (p .session)
-causeFor (Framed room l) p = causeOf (proper (p .memories)) (leb canRoom room) (isFrame classic l) (p .session)
+causeFor (Byte room b) p = causeOf (proper (p .memories)) (leb UC.uartRoom room) true (p .session)
+causeFor (Framed room l) p = causeOf (proper (p .memories)) (leb CC.canRoom room) (isFrame classic l) (p .session)
 
 -- what is decided on an input that is accepted
 unfoldable pub decide : Input → Session → List ℕ → Decision

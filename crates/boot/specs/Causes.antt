@@ -26,13 +26,6 @@ accepts BadFrame = false
 accepts UnsoundSession = false
 accepts BoardRunning = false
 
--- the room that a reply buffer must have
-abbrev pub uartRoom : ℕ
-uartRoom = 257
-
-abbrev pub canRoom : ℕ
-canRoom = 363
-
 -- the first cause that holds, of memories with their lengths, room for the reply, a well-formed frame and a session
 unfoldable pub causeOf : Bool → Bool → Bool → Session → Cause
 causeOf memories room frame s =

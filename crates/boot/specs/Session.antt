@@ -5,6 +5,7 @@ use mathlib.Core.List.{List}
 use lib.ListN.{length, replicate}
 use lib.Dec.{eqb, leb, ltb}
 use Rattle.words.specs.Choice.{if_then_else_}
+use Rattle.memories.specs.Effects.{stagedBytes}
 use Rattle.command.specs.Progress.{Progress, fitting, stagedWith}
 use Rattle.command.specs.declared.Next.{Next}
 use Rattle.command.specs.declared.Next.the-variants.{Stay, Reset, Gather, GoIdle, SetSpeed, Enter, EnterAt, Run}
@@ -37,10 +38,7 @@ idleExpects Uart = U.complementedByte
 idleExpects Can = C.oneFrame
 idleExpects Running = resting
 
--- how many staged bytes there are, and all of them 0
-abbrev pub stagedBytes : ℕ
-stagedBytes = 257
-
+-- every staged byte is 0
 abbrev pub noBytes : List ℕ
 noBytes = replicate stagedBytes 0
 

@@ -14,6 +14,15 @@ pub enum Carrier {
     Running,
 }
 
+// The numbers of the carriers.
+const NONE: u8 = 0;
+
+const UART: u8 = 1;
+
+const CAN: u8 = 2;
+
+const RUNNING: u8 = 3;
+
 // Why a call is refused, and that it is not.
 pub enum Cause {
     Accepted,
@@ -32,7 +41,7 @@ pub struct Session {
     pub expected: usize,
     pub address: u32,
     pub speed: u8,
-    pub staged: [u8; 257],
+    pub staged: [u8; memories::STAGED],
 }
 
 // What a call hands back: the cause's number, the length of the reply, the next session.
@@ -48,10 +57,10 @@ impl Carrier {
         ensures { λ r. ⌜ r ≡ carrierNo self ⌝ }
     {
         match self {
-            Carrier::None => 0,
-            Carrier::Uart => 1,
-            Carrier::Can => 2,
-            Carrier::Running => 3,
+            Carrier::None => NONE,
+            Carrier::Uart => UART,
+            Carrier::Can => CAN,
+            Carrier::Running => RUNNING,
         }
     }
 }

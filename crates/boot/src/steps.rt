@@ -3,6 +3,7 @@ ghost use mathlib.Core.List.{[], _∷_};
 ghost use Prim.Native.Nat.{_<_, _≤_};
 ghost use lib.Dec.{T};
 ghost use lib.ListN.{length};
+ghost use Rattle.memories.specs.Effects.{stagedBytes};
 ghost use Rattle.boot.specs.Session.{idleExpects, entered, idle, running, stepSound, sound, gathered, after};
 ghost use Rattle.boot.specs.Promise.{PoweredOn};
 use crate::Carrier;
@@ -34,8 +35,8 @@ fn step_sound(carrier: u8, step: u8, expected: usize) -> bool
     ensures { λ r. ⌜ r ≡ stepSound carrier step expected ⌝ }
 {
     match carrier {
-        1 => (step < 14) & uart::Step::of(step).expects(expected),
-        2 => (step < 4) & can::Step::of(step).expects(expected),
+        crate::UART => (step < uart::STEPS) & uart::Step::of(step).expects(expected),
+        crate::CAN => (step < can::STEPS) & can::Step::of(step).expects(expected),
         _ => (step == 0) & (expected == RESTING),
     }
 }
@@ -59,7 +60,7 @@ impl Session {
             expected: expected,
             address: address,
             speed: speed,
-            staged: [0u8; 257],
+            staged: [0u8; memories::STAGED],
         }
     }
 
@@ -81,7 +82,7 @@ impl Session {
     pub fn sound(self) -> bool
         ensures { λ r. ⌜ r ≡ sound self ⌝ }
     {
-        (self.carrier <= 3)
+        (self.carrier <= crate::RUNNING)
             & (self.speed <= LARGEST_SPEED)
             & step_sound(self.carrier, self.step, self.expected)
             & (self.taken < self.expected)
@@ -89,7 +90,7 @@ impl Session {
 
     // The session with one byte taken.
     pub fn gather(mut self, byte: u8) -> Session
-        requires { ⌜ (self .taken < self .expected) × (self .expected ≤ 257) ⌝ }
+        requires { ⌜ (self .taken < self .expected) × (self .expected ≤ stagedBytes) ⌝ }
         ensures { λ r. ⌜ r ≡ gathered (byte ∷ []) self ⌝ }
     {
         let at = self.taken;

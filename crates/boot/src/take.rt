@@ -4,10 +4,12 @@ ghost use Prim.Native.Nat.{_≤_};
 ghost use lib.Dec.{T, eqb, leb};
 ghost use lib.ListN.{length};
 ghost use Rattle.board.specs.Board.{extentOf};
+ghost use Rattle.board.specs.declared.Region.the-variants.{Flash, Sram, Usd};
 ghost use Rattle.memories.specs.Memories.{memories, proper};
+ghost use Rattle.uart.specs.Conversation as UC;
 ghost use Rattle.boot.specs.Session.{sound};
 ghost use Rattle.boot.specs.Decide.{decideByte};
-ghost use Rattle.boot.specs.Causes.{accepts, uartRoom, causeOf};
+ghost use Rattle.boot.specs.Causes.{accepts, causeOf};
 ghost use Rattle.boot.specs.Calls.{Byte, perform};
 ghost use Rattle.boot.specs.Promise.{left, stateOf, givenByte, Leaves, Took};
 use crate::Carrier;
@@ -15,10 +17,6 @@ use crate::Cause;
 use crate::Session;
 use crate::Taken;
 use board::Board;
-use board::Region;
-
-// The room that a reply on UART may need.
-pub const UART_ROOM: usize = 257;
 
 impl Cause {
     // Whether the call is accepted.
@@ -67,12 +65,12 @@ impl Session {
 
     // Why a byte is refused, if it is, given the lengths of what is lent.
     fn byte_cause(self, flash: usize, sram: usize, usd: usize, room: usize) -> Cause
-        ensures { λ r. ⌜ r ≡ causeOf (eqb flash (extentOf Region.Flash .bytes) && eqb sram (extentOf Region.Sram .bytes) && eqb usd (extentOf Region.Usd .bytes)) (leb uartRoom room) true self ⌝ }
+        ensures { λ r. ⌜ r ≡ causeOf (eqb flash (extentOf Flash .bytes) && eqb sram (extentOf Sram .bytes) && eqb usd (extentOf Usd .bytes)) (leb UC.uartRoom room) true self ⌝ }
     {
         let lengths = (flash == Board::FLASH_BYTES)
             & (sram == Board::SRAM_BYTES)
             & (usd == Board::USD_BYTES);
-        self.cause(lengths, UART_ROOM <= room, true)
+        self.cause(lengths, uart::say::ROOM <= room, true)
     }
 
     // A byte that is accepted is decided on, answered and carried out.
@@ -84,7 +82,7 @@ impl Session {
         usd: &mut [u8],
         buffer: &mut [u8],
     ) -> Taken
-        requires { ⌜ T (sound self) × T (proper (memories (now flash) (now sram) (now usd))) × (257 ≤ length (now buffer)) ⌝ }
+        requires { ⌜ T (sound self) × T (proper (memories (now flash) (now sram) (now usd))) × (UC.uartRoom ≤ length (now buffer)) ⌝ }
         ensures { λ r. ⌜ Leaves (perform (Byte (length (now (buffer .entry))) byte) (stateOf self (now (flash .entry)) (now (sram .entry)) (now (usd .entry))) (decideByte self (now (usd .entry)) byte)) (now (buffer .entry)) (left r (now (flash .exit)) (now (sram .exit)) (now (usd .exit)) (now (buffer .exit))) ⌝ }
     {
         let taken = self.gather(byte);

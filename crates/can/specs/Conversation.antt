@@ -6,7 +6,7 @@ use lib.ListN.{length, getD, take, drop}
 use lib.Dec.{eqb, leb}
 use Rattle.words.specs.Bytes.{number}
 use Rattle.board.specs.Board.{address, identity}
-use Rattle.board.specs.Quantities.{countOf, lessOne, oneLess}
+use Rattle.board.specs.Quantities.{countOf, lessOne, oneLess, addressBytes}
 use Rattle.board.specs.declared.Address.{Address}
 use Rattle.memories.specs.declared.Change.the-variants.{EraseAll}
 use Rattle.command.specs.Commands.{code, canCommands, lookUp}
@@ -29,6 +29,10 @@ use Rattle.can.specs.Frames.{Frame, carried}
 use Rattle.can.specs.Steps.{stepNo, expectedForNumbers, numbersIn}
 use Rattle.can.specs.declared.Step.{Step}
 use Rattle.can.specs.declared.Step.the-variants.{Idle, WriteData, EraseList, ProtectList}
+
+-- the room that a reply buffer must have
+abbrev pub canRoom : ℕ
+canRoom = 363
 
 -- the ID that asks for a connection
 abbrev pub connectId : ℕ
@@ -61,7 +65,7 @@ dlcFits Speed n = eqb n 2
 
 -- the address that a command frame's data begin with
 abbrev pub addressIn : List ℕ → Address
-addressIn d = address (number (take 4 d))
+addressIn d = address (number (take addressBytes d))
 
 -- the count, sent as one less, that data bytes write
 abbrev pub countSent : List ℕ → ℕ
@@ -83,17 +87,17 @@ unfoldable pub obeyed : List ℕ → List ℕ → Command → Decision
 obeyed usd d GetCommands = telling Commands
 obeyed usd d GetVersion = telling Version
 obeyed usd d GetDeviceId = telling DeviceId
-obeyed usd d ReadMemory = reading (addressIn d) (countSent (drop 4 d))
+obeyed usd d ReadMemory = reading (addressIn d) (countSent (drop addressBytes d))
 obeyed usd d Jump = jumping (addressIn d)
 obeyed usd d WriteMemory =
-    judged (writeVerdict usd (addressIn d) (countSent (drop 4 d)))
-    (answer Ack (EnterAt (stepNo WriteData) (countSent (drop 4 d)) (addressIn d .0)))
+    judged (writeVerdict usd (addressIn d) (countSent (drop addressBytes d)))
+    (answer Ack (EnterAt (stepNo WriteData) (countSent (drop addressBytes d)) (addressIn d .0)))
 obeyed usd d Erase = selected usd (selectorOf (number d))
 obeyed usd d ProgramProtect = answer Ack (Enter (stepNo ProtectList) (countSent d))
 obeyed usd d ProgramUnprotect = releasing
 obeyed usd d AccessProtect = locking
 obeyed usd d AccessUnprotect = unlocking
-obeyed usd d FirmwareCrc = summing (addressIn d) (countSent (drop 4 d))
+obeyed usd d FirmwareCrc = summing (addressIn d) (countSent (drop addressBytes d))
 obeyed usd d ResetDevice = resetting
 obeyed usd d Speed =
     if leb (getD d 0 0) largestSpeed gives answer AckAck (SetSpeed (getD d 0 0)) else nack BadSpeed

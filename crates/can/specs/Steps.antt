@@ -5,7 +5,7 @@ use mathlib.Core.List.{List, [], _∷_}
 use lib.ListN.{getD}
 use lib.Dec.{eqb, leb}
 use Rattle.board.specs.Board.{sectors}
-use Rattle.memories.specs.Effects.{largestCount}
+use Rattle.board.specs.Quantities.{largestCount}
 use Rattle.can.specs.declared.Step.{Step}
 use Rattle.can.specs.declared.Step.the-variants.{Idle, WriteData, EraseList, ProtectList}
 

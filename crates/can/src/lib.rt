@@ -1,6 +1,7 @@
 ghost use mathlib.Core.Path.{_≡_};
 ghost use Rattle.can.specs.Steps.{stepNo, stepOf, expects};
 use board::Board;
+use board::LessOne;
 
 // The steps of the CAN conversation, idle first.
 pub enum Step {
@@ -9,6 +10,9 @@ pub enum Step {
     EraseList,
     ProtectList,
 }
+
+// How many steps there are.
+pub const STEPS: u8 = 4;
 
 // What an idle session expects: one command frame.
 pub const ONE_FRAME: usize = 1;
@@ -45,9 +49,9 @@ impl Step {
     {
         match self {
             Step::Idle => n == ONE_FRAME,
-            Step::WriteData => (1 <= n) & (n <= 256),
+            Step::WriteData => (1 <= n) & (n <= LessOne::LARGEST),
             Step::EraseList => (2 <= n) & (n <= 2 * Board::SECTORS) & (n % 2 == 0),
-            Step::ProtectList => (1 <= n) & (n <= 256),
+            Step::ProtectList => (1 <= n) & (n <= LessOne::LARGEST),
         }
     }
 }

@@ -8,8 +8,8 @@ use lib.Dec.{leb}
 use Rattle.words.specs.Bytes.{byteOf, fourBytes}
 use Rattle.words.specs.Lists.{part, singly}
 use Rattle.board.specs.Board.{extentOf, flash, identity}
+use Rattle.board.specs.Quantities.{largestCount}
 use Rattle.crc.specs.Crc.{crc}
-use Rattle.memories.specs.Effects.{largestCount}
 use Rattle.memories.specs.Memories.{Memories, bytesOf}
 use Rattle.command.specs.declared.Reply.{Reply}
 use Rattle.command.specs.declared.Reply.the-variants.{Silence, Ack, AckAck, Nack, AckNack, Commands, Version, DeviceId, Data, Crc}

@@ -1,13 +1,17 @@
+pub mod code;
+
 ghost use mathlib.Core.Path.{_≡_};
 ghost use mathlib.Core.List.{[]};
 ghost use Prim.Native.Nat.{_+_, _*_, _≤_, _<_};
 ghost use lib.Dec.{T};
 ghost use lib.ListN.{length};
 ghost use Rattle.words.specs.Lists.{any, all};
-ghost use Rattle.board.specs.Quantities.{isSector, firstIndexed, firstNumbered};
+ghost use Rattle.board.specs.Board.{extentOf};
+ghost use Rattle.board.specs.Quantities.{largestLongCount, isSector, firstIndexed, firstNumbered};
 ghost use Rattle.board.specs.Regions.{touched};
 ghost use Rattle.board.specs.Usd.{writeProtected};
-ghost use Rattle.command.specs.Commands.{uartCommands, lookUp, protected};
+ghost use Rattle.board.specs.declared.Region.the-variants.{Flash, Usd};
+ghost use Rattle.command.specs.Commands.{protected};
 ghost use Rattle.command.specs.Decision.{if_gives_else_, answer, alter, nack, judged};
 ghost use Rattle.command.specs.Rules.{unlessProtected, readAt, reading, writeVerdictAt, writeVerdict, afterWrite, writeAt, writing, selectorOf, eraseVerdict, erasing, eraseAllVerdict, protectVerdict, protecting, jumping, sumAt, summing};
 use board::Address;
@@ -185,7 +189,7 @@ pub fn is_protected(command: Command) -> bool
 
 // A decision on a command, unless protection forbids the command.
 pub fn unless_protected(usd: &[u8], command: Command, decision: Decision) -> Decision
-    requires { ⌜ length (now usd) ≡ 64 ⌝ }
+    requires { ⌜ length (now usd) ≡ extentOf Usd .bytes ⌝ }
     ensures { λ r. ⌜ r ≡ unlessProtected (now (usd .entry)) command decision ⌝ }
 {
     let forbidden = Board::protection_on(usd) & is_protected(command);
@@ -219,7 +223,7 @@ pub fn read(address: Address, x: usize) -> Decision
 
 // Whether x bytes of flash from an offset on touch a write-protected sector.
 fn touches_protected(usd: &[u8], at: usize, x: usize) -> bool
-    requires { ⌜ (length (now usd) ≡ 64) × (0 < x) × (at + x ≤ 32768) ⌝ }
+    requires { ⌜ (length (now usd) ≡ extentOf Usd .bytes) × (0 < x) × (at + x ≤ extentOf Flash .bytes) ⌝ }
     ensures { λ r. ⌜ r ≡ any (writeProtected (now (usd .entry))) (touched at x) ⌝ }
 {
     let first = at / Board::SECTOR_BYTES;
@@ -229,8 +233,8 @@ fn touches_protected(usd: &[u8], at: usize, x: usize) -> bool
 
 // Whether x bytes may be written into flash.
 fn flash_verdict(usd: &[u8], at: usize, x: usize) -> Verdict
-    requires { ⌜ (length (now usd) ≡ 64) × (0 < x) × (at + x ≤ 32768) ⌝ }
-    ensures { λ r. ⌜ r ≡ writeVerdictAt (now (usd .entry)) (Place.In Region.Flash at) x ⌝ }
+    requires { ⌜ (length (now usd) ≡ extentOf Usd .bytes) × (0 < x) × (at + x ≤ extentOf Flash .bytes) ⌝ }
+    ensures { λ r. ⌜ r ≡ writeVerdictAt (now (usd .entry)) (Place.In Flash at) x ⌝ }
 {
     let forbidden = touches_protected(usd, at, x);
     if forbidden {
@@ -242,7 +246,7 @@ fn flash_verdict(usd: &[u8], at: usize, x: usize) -> Verdict
 
 // Whether x bytes may be written into user system data: only the whole of it.
 fn usd_verdict(at: usize, x: usize) -> Verdict
-    ensures { λ r. ⌜ r ≡ writeVerdictAt [] (Place.In Region.Usd at) x ⌝ }
+    ensures { λ r. ⌜ r ≡ writeVerdictAt [] (Place.In Usd at) x ⌝ }
 {
     let whole = (at == 0) & (x == Board::USD_BYTES);
     if whole {
@@ -254,7 +258,7 @@ fn usd_verdict(at: usize, x: usize) -> Verdict
 
 // Whether x bytes may be written from an address on.
 pub fn write_verdict(usd: &[u8], address: Address, x: usize) -> Verdict
-    requires { ⌜ (length (now usd) ≡ 64) × (0 < x) ⌝ }
+    requires { ⌜ (length (now usd) ≡ extentOf Usd .bytes) × (0 < x) ⌝ }
     ensures { λ r. ⌜ r ≡ writeVerdict (now (usd .entry)) address x ⌝ }
 {
     let known = Board::known(address);
@@ -300,7 +304,7 @@ fn write_at(place: Place, x: usize) -> Decision
 
 // A write of x staged bytes from an address on, or a refusal.
 pub fn write(usd: &[u8], address: Address, x: usize) -> Decision
-    requires { ⌜ (length (now usd) ≡ 64) × (0 < x) ⌝ }
+    requires { ⌜ (length (now usd) ≡ extentOf Usd .bytes) × (0 < x) ⌝ }
     ensures { λ r. ⌜ r ≡ writing (now (usd .entry)) address x ⌝ }
 {
     judged(
@@ -328,7 +332,7 @@ pub fn selector_of(number: u16) -> Selector
 
 // Whether the x staged two-byte numbers are all sectors of the board.
 fn all_numbered(staged: &[u8], x: usize) -> bool
-    requires { ⌜ (x ≤ 128) × (2 * x ≤ length (now staged)) ⌝ }
+    requires { ⌜ 2 * x ≤ length (now staged) ⌝ }
     ensures { λ r. ⌜ r ≡ all isSector (firstNumbered x (now (staged .entry))) ⌝ }
 {
     let end = 2 * x;
@@ -345,7 +349,7 @@ fn all_numbered(staged: &[u8], x: usize) -> bool
 
 // Whether one of the x staged two-byte numbers names a write-protected sector.
 fn any_numbered_protected(usd: &[u8], staged: &[u8], x: usize) -> bool
-    requires { ⌜ (length (now usd) ≡ 64) × (x ≤ 128) × (2 * x ≤ length (now staged)) × T (all isSector (firstNumbered x (now staged))) ⌝ }
+    requires { ⌜ (length (now usd) ≡ extentOf Usd .bytes) × (2 * x ≤ length (now staged)) × T (all isSector (firstNumbered x (now staged))) ⌝ }
     ensures { λ r. ⌜ r ≡ any (writeProtected (now (usd .entry))) (firstNumbered x (now (staged .entry))) ⌝ }
 {
     let end = 2 * x;
@@ -362,7 +366,7 @@ fn any_numbered_protected(usd: &[u8], staged: &[u8], x: usize) -> bool
 
 // Whether the x sectors whose numbers are staged may be erased.
 fn erase_verdict(usd: &[u8], staged: &[u8], x: usize) -> Verdict
-    requires { ⌜ (length (now usd) ≡ 64) × (x ≤ 128) × (2 * x ≤ length (now staged)) ⌝ }
+    requires { ⌜ (length (now usd) ≡ extentOf Usd .bytes) × (2 * x ≤ length (now staged)) ⌝ }
     ensures { λ r. ⌜ r ≡ eraseVerdict (now (usd .entry)) (firstNumbered x (now (staged .entry))) ⌝ }
 {
     let sectors = all_numbered(staged, x);
@@ -379,7 +383,7 @@ fn erase_verdict(usd: &[u8], staged: &[u8], x: usize) -> Verdict
 
 // An erase of the x sectors whose numbers are staged, or of none.
 pub fn erase(usd: &[u8], staged: &[u8], x: usize) -> Decision
-    requires { ⌜ (length (now usd) ≡ 64) × (x ≤ 128) × (2 * x ≤ length (now staged)) ⌝ }
+    requires { ⌜ (length (now usd) ≡ extentOf Usd .bytes) × (2 * x ≤ length (now staged)) ⌝ }
     ensures { λ r. ⌜ r ≡ erasing (now (usd .entry)) (now (staged .entry)) x ⌝ }
 {
     judged(
@@ -390,7 +394,7 @@ pub fn erase(usd: &[u8], staged: &[u8], x: usize) -> Decision
 
 // Whether a special selector may erase all flash.
 pub fn erase_all_verdict(usd: &[u8], number: u32) -> Verdict
-    requires { ⌜ length (now usd) ≡ 64 ⌝ }
+    requires { ⌜ length (now usd) ≡ extentOf Usd .bytes ⌝ }
     ensures { λ r. ⌜ r ≡ eraseAllVerdict (now (usd .entry)) number ⌝ }
 {
     let all = (number == WHOLE_FLASH) | (number == FIRST_BANK);
@@ -459,7 +463,7 @@ fn sum_at(place: Place, n: usize) -> Decision
 
 // The checksum of x sectors from an address on.
 pub fn sum(address: Address, x: usize) -> Decision
-    requires { ⌜ x ≤ 65536 ⌝ }
+    requires { ⌜ x ≤ largestLongCount ⌝ }
     ensures { λ r. ⌜ r ≡ summing address x ⌝ }
 {
     let n = x * Board::SECTOR_BYTES;

@@ -9,7 +9,7 @@ use Rattle.words.specs.Choice.{if_then_else_}
 use Rattle.words.specs.Lists.{all}
 use Rattle.words.specs.Over.{over, put}
 use Rattle.board.specs.Board as B
-use Rattle.board.specs.Quantities.{startOf, isSector, firstIndexed, firstNumbered}
+use Rattle.board.specs.Quantities.{largestCount, startOf, isSector, firstIndexed, firstNumbered}
 use Rattle.board.specs.Usd.{protectionOn}
 use Rattle.board.specs.declared.Region.{Region}
 use Rattle.board.specs.declared.Region.the-variants.{Flash, Sram, Usd}
@@ -19,9 +19,9 @@ use Rattle.memories.specs.Protection.{released, onlyProtected, locked, u
 use Rattle.memories.specs.declared.Change.{Change}
 use Rattle.memories.specs.declared.Change.the-variants.{Nothing, Write, EraseAll, EraseSectors, ProtectOnly, Release, Lock, Unlock}
 
--- the most bytes that a command carries
-abbrev pub largestCount : ℕ
-largestCount = 256
+-- how many staged bytes there are
+abbrev pub stagedBytes : ℕ
+stagedBytes = 257
 
 -- an erased byte of flash
 abbrev pub erasedByte : ℕ

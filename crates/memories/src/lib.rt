@@ -5,8 +5,9 @@ ghost use lib.Dec.{T};
 ghost use lib.ListN.{length, take, replicate};
 ghost use Rattle.words.specs.Lists.{all};
 ghost use Rattle.words.specs.Over.{put};
-ghost use Rattle.board.specs.Board.{extentOf};
-ghost use Rattle.board.specs.Quantities.{startOf, isSector, firstIndexed, firstNumbered};
+ghost use Rattle.board.specs.Board.{extentOf, sectors};
+ghost use Rattle.board.specs.Quantities.{largestCount, startOf, isSector, firstIndexed, firstNumbered};
+ghost use Rattle.board.specs.declared.Region.the-variants.{Flash, Usd};
 ghost use Rattle.memories.specs.Memories.{memories, proper, bytesOf};
 ghost use Rattle.memories.specs.Protection.{released, alsoProtected, onlyProtected, locked, unlocked};
 ghost use Rattle.memories.specs.Effects.{blank, erased, written, wiped, effect, fits};
@@ -14,8 +15,20 @@ use board::Board;
 use board::Region;
 use board::Sector;
 
+// How many staged bytes there are.
+pub const STAGED: usize = 257;
+
 // An erased byte of flash.
 pub const ERASED: u8 = 0xFF;
+
+// A wiped byte of SRAM.
+const WIPED: u8 = 0;
+
+// Eight sectors, all released.
+const RELEASED: u8 = 0xFF;
+
+// Byte 0 of user system data while protection is on.
+const LOCKED: u8 = 0;
 
 // What is done to the memories; the bytes written and the sectors named stand among the staged bytes.
 pub enum Change {
@@ -39,10 +52,10 @@ fn write(
     usd: &mut [u8],
     region: Region,
     at: usize,
-    staged: &[u8; 257],
+    staged: &[u8; STAGED],
     x: usize,
 )
-    requires { ⌜ T (proper (memories (now flash) (now sram) (now usd))) × (x ≤ 256) × (at + x ≤ extentOf region .bytes) ⌝ }
+    requires { ⌜ T (proper (memories (now flash) (now sram) (now usd))) × (x ≤ largestCount) × (at + x ≤ extentOf region .bytes) ⌝ }
     ensures { λ _. ⌜ memories (now (flash .exit)) (now (sram .exit)) (now (usd .exit)) ≡ written region at (take x (now (staged .entry))) (memories (now (flash .entry)) (now (sram .entry)) (now (usd .entry))) ⌝ }
 {
     match region {
@@ -54,7 +67,7 @@ fn write(
 
 // Erases one sector.
 fn erase_sector(flash: &mut [u8], sector: Sector)
-    requires { ⌜ (length (now flash) ≡ 32768) × T (isSector sector) ⌝ }
+    requires { ⌜ (length (now flash) ≡ extentOf Flash .bytes) × T (isSector sector) ⌝ }
     ensures { λ _. ⌜ now (flash .exit) ≡ put (now (flash .entry)) (startOf sector) blank ⌝ }
 {
     words::fill(flash, sector.start(), Board::SECTOR_BYTES, ERASED);
@@ -62,7 +75,7 @@ fn erase_sector(flash: &mut [u8], sector: Sector)
 
 // Erases the x sectors whose two-byte numbers are staged.
 fn erase_sectors(flash: &mut [u8], staged: &[u8], x: usize)
-    requires { ⌜ (length (now flash) ≡ 32768) × (x ≤ 32) × (2 * x ≤ length (now staged)) × T (all isSector (firstNumbered x (now staged))) ⌝ }
+    requires { ⌜ (length (now flash) ≡ extentOf Flash .bytes) × (x ≤ sectors .count) × (2 * x ≤ length (now staged)) × T (all isSector (firstNumbered x (now staged))) ⌝ }
     ensures { λ _. ⌜ now (flash .exit) ≡ erased (now (flash .entry)) (firstNumbered x (now (staged .entry))) ⌝ }
 {
     let end = 2 * x;
@@ -84,15 +97,15 @@ fn fill_all(memory: &mut [u8], byte: u8)
 
 // Releases every sector.
 fn release(usd: &mut [u8])
-    requires { ⌜ length (now usd) ≡ 64 ⌝ }
+    requires { ⌜ length (now usd) ≡ extentOf Usd .bytes ⌝ }
     ensures { λ _. ⌜ now (usd .exit) ≡ released (now (usd .entry)) ⌝ }
 {
-    words::fill(usd, Board::SECTOR_BITS, Board::SECTORS / 8, 0xFF);
+    words::fill(usd, Board::SECTOR_BITS, Board::SECTORS / 8, RELEASED);
 }
 
 // Protects one sector too.
 fn protect_also(usd: &mut [u8], sector: Sector)
-    requires { ⌜ (length (now usd) ≡ 64) × T (isSector sector) ⌝ }
+    requires { ⌜ (length (now usd) ≡ extentOf Usd .bytes) × T (isSector sector) ⌝ }
     ensures { λ _. ⌜ now (usd .exit) ≡ alsoProtected (now (usd .entry)) sector ⌝ }
 {
     let k = sector.0;
@@ -103,7 +116,7 @@ fn protect_also(usd: &mut [u8], sector: Sector)
 
 // Makes the x sectors whose indexes are staged the only protected ones.
 fn protect_only(usd: &mut [u8], staged: &[u8], x: usize)
-    requires { ⌜ (length (now usd) ≡ 64) × (x ≤ length (now staged)) × T (all isSector (firstIndexed x (now staged))) ⌝ }
+    requires { ⌜ (length (now usd) ≡ extentOf Usd .bytes) × (x ≤ length (now staged)) × T (all isSector (firstIndexed x (now staged))) ⌝ }
     ensures { λ _. ⌜ now (usd .exit) ≡ onlyProtected (now (usd .entry)) (firstIndexed x (now (staged .entry))) ⌝ }
 {
     release(usd);
@@ -122,23 +135,23 @@ fn unlock(flash: &mut [u8], sram: &mut [u8], usd: &mut [u8])
     let on = Board::protection_on(usd);
     if on {
         fill_all(flash, ERASED);
-        fill_all(sram, 0);
+        fill_all(sram, WIPED);
         usd[Board::PROTECTION] = Board::PROTECTION_OFF;
     }
 }
 
 // Turns protection on.
 fn lock(usd: &mut [u8])
-    requires { ⌜ length (now usd) ≡ 64 ⌝ }
+    requires { ⌜ length (now usd) ≡ extentOf Usd .bytes ⌝ }
     ensures { λ _. ⌜ now (usd .exit) ≡ locked (now (usd .entry)) ⌝ }
 {
-    usd[Board::PROTECTION] = 0;
+    usd[Board::PROTECTION] = LOCKED;
 }
 
 // Carries out a change that can be.
 pub fn carry_out(
     change: Change,
-    staged: &[u8; 257],
+    staged: &[u8; STAGED],
     flash: &mut [u8],
     sram: &mut [u8],
     usd: &mut [u8],

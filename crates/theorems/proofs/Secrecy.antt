@@ -19,8 +19,10 @@ use Rattle.command.specs.declared.Next.the-variants.{Stay}
 use Rattle.command.specs.declared.Reply.{Reply}
 use Rattle.command.specs.declared.Reply.the-variants.{Silence, Ack, AckAck, Nack, AckNack, Commands, Version, DeviceId, Data, Crc}
 use Rattle.can.specs.Frames.{classic, isFrame}
+use Rattle.uart.specs.Conversation.{uartRoom}
+use Rattle.can.specs.Conversation.{canRoom}
 use Rattle.boot.specs.Session.{after, progress, gathered}
-use Rattle.boot.specs.Causes.{causeOf, accepts, uartRoom, canRoom}
+use Rattle.boot.specs.Causes.{causeOf, accepts}
 use Rattle.boot.specs.Calls.{done, State, powered, Input, Power, Byte, Framed, Outcome, carrierOf, brings, commandsOf, causeFor, decide, sent, perform, refused, call, outcomes, run}
 use Rattle.boot.specs.declared.Cause.{Cause}
 use Rattle.boot.specs.declared.Cause.the-variants.{Accepted}

@@ -9,7 +9,8 @@ use Rattle.words.specs.Lists.{join, part}
 use Rattle.board.specs.Board as B
 use Rattle.board.specs.declared.Region.the-variants.{Flash, Usd}
 use Rattle.memories.specs.Memories.{Memories, memories, withBytes, freshUsd, freshMemories}
-use Rattle.boot.specs.Causes as BC
+use Rattle.uart.specs.Conversation.{uartRoom}
+use Rattle.can.specs.Conversation.{canRoom}
 use Rattle.boot.specs.Calls.{State, powered, Input, Byte, Framed, Outcome, outcomes, run}
 
 -- ---- boards
@@ -42,11 +43,11 @@ pub record Exchange : Type 0 where
 
 -- bytes on UART, each with the room it needs
 abbrev pub uart : String → String → Exchange
-uart sent answered = record { inputs = map (Byte BC.uartRoom) (hex sent); answered = hex answered }
+uart sent answered = record { inputs = map (Byte uartRoom) (hex sent); answered = hex answered }
 
 -- a frame on CAN, in eleven bytes
 abbrev pub can : String → String → Exchange
-can sent answered = record { inputs = Framed BC.canRoom (hex sent) ∷ []; answered = hex answered }
+can sent answered = record { inputs = Framed canRoom (hex sent) ∷ []; answered = hex answered }
 
 -- the calls to connect
 abbrev pub connectUart : Exchange

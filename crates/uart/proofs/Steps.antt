@@ -8,7 +8,7 @@ use lib.Dec.{T, eqb, leb, leb→le, eqb→eq}
 use lib.ListN.{length}
 use Rattle.words.specs.Lists.{countFrom}
 use Rattle.words.proofs.Tests.{both-left, both-right}
-use Rattle.memories.specs.Effects.{largestCount}
+use Rattle.board.specs.Quantities.{largestCount}
 use Rattle.uart.specs.Steps.{stepNo, steps, stepOf, complementedByte, checkedAddress, oneByte, expectedFor, expects}
 use denote.Enum.Declared.{tagOf}
 use Rattle.uart.proofs.Step.{the-type}

@@ -6,7 +6,7 @@ use lib.ListN.{length, getD, take}
 use lib.Dec.{eqb}
 use Rattle.words.specs.Bytes.{complement, xorAll, number, twoBytes}
 use Rattle.board.specs.Board.{address, identity}
-use Rattle.board.specs.Quantities.{countOf, lessOne, oneLess}
+use Rattle.board.specs.Quantities.{countOf, lessOne, oneLess, addressBytes}
 use Rattle.board.specs.Regions.{known, sectorStart}
 use Rattle.board.specs.declared.Address.{Address}
 use Rattle.memories.specs.declared.Change.the-variants.{EraseAll}
@@ -27,6 +27,10 @@ use Rattle.command.specs.declared.Why.the-variants.{BadComplement, UnknownComma
 use Rattle.uart.specs.Steps.{stepNo, complementedByte, checkedAddress, oneByte, selectorBytes, checkedCount, expectedFor, countIn, expectedForNumbers, numbersIn}
 use Rattle.uart.specs.declared.Step.{Step}
 use Rattle.uart.specs.declared.Step.the-variants.{Idle, ReadAddress, JumpAddress, WriteAddress, CrcAddress, ReadLength, WriteLength, WriteData, EraseSelector, SpecialCheck, EraseList, ProtectLength, ProtectList, CrcCount}
+
+-- the room that a reply buffer must have
+abbrev pub uartRoom : ℕ
+uartRoom = 257
 
 -- the byte that asks for a connection
 abbrev pub connectByte : ℕ
@@ -85,7 +89,7 @@ commanded usd Unknown = nack UnknownCommand
 -- an address and the XOR of its four bytes
 unfoldable pub addressed : (Address → Decision) → List ℕ → Decision
 addressed go bytes =
-    if checks (take 4 bytes) (getD bytes 4 0) gives go (address (number (take 4 bytes)))
+    if checks (take addressBytes bytes) (getD bytes addressBytes 0) gives go (address (number (take addressBytes bytes)))
     else nack BadChecksum
 
 -- an address that passes a test is kept, and a step is entered

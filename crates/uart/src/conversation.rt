@@ -4,16 +4,18 @@ ghost use Prim.Native.Nat.{_+_, _≤_, _<_};
 ghost use lib.Dec.{T, ltb};
 ghost use lib.ListN.{length, getD, take};
 ghost use Rattle.words.specs.Bytes.{number, twoBytes};
-ghost use Rattle.board.specs.Board.{address};
-ghost use Rattle.board.specs.Quantities.{countOf, lessOne};
+ghost use Rattle.board.specs.Board.{extentOf, sectors, address};
+ghost use Rattle.board.specs.Quantities.{largestCount, countOf, lessOne, addressBytes};
 ghost use Rattle.board.specs.Regions.{known, sectorStart};
+ghost use Rattle.board.specs.declared.Region.the-variants.{Usd};
+ghost use Rattle.memories.specs.Effects.{stagedBytes};
 ghost use Rattle.command.specs.Commands.{uartCommands, lookUp};
 ghost use Rattle.command.specs.Decision.{if_gives_else_, answer, nack};
 ghost use Rattle.command.specs.Rules.{jumping};
 ghost use Rattle.command.specs.declared.Next.the-variants.{Gather, EnterAt};
 ghost use Rattle.command.specs.declared.Reply.the-variants.{Silence, Ack};
 ghost use Rattle.command.specs.declared.Why.the-variants.{BadAddress, BadChecksum};
-ghost use Rattle.uart.specs.Steps.{stepNo, stepOf, expects};
+ghost use Rattle.uart.specs.Steps.{stepNo, stepOf, expects, complementedByte, oneByte, selectorBytes, checkedCount, expectedFor, expectedForNumbers};
 ghost use Rattle.uart.specs.Conversation.{complemented, checks, checksCounted, checksNumbered, goOn, awaits, obeyed, commanded, addressed, keptIf, selected, complete};
 use crate::Step;
 use board::Address;
@@ -26,26 +28,33 @@ use command::Next;
 use command::Reply;
 use command::Selector;
 use command::Why;
+use command::code;
 use memories::Change;
+
+// An address is sent in so many bytes.
+const ADDRESS_BYTES: usize = 4;
+
+// The byte with which the checksum of Firmware CRC's count begins.
+const CRC_CHECK: u8 = 0xFF;
 
 // The command that a byte asks for, if there is one.
 fn look_up(byte: u8) -> Lookup
     ensures { λ r. ⌜ r ≡ lookUp uartCommands byte ⌝ }
 {
     match byte {
-        0x00 => Lookup::Known(Command::GetCommands),
-        0x01 => Lookup::Known(Command::GetVersion),
-        0x02 => Lookup::Known(Command::GetDeviceId),
-        0x11 => Lookup::Known(Command::ReadMemory),
-        0x21 => Lookup::Known(Command::Jump),
-        0x31 => Lookup::Known(Command::WriteMemory),
-        0x44 => Lookup::Known(Command::Erase),
-        0x63 => Lookup::Known(Command::ProgramProtect),
-        0x73 => Lookup::Known(Command::ProgramUnprotect),
-        0x82 => Lookup::Known(Command::AccessProtect),
-        0x92 => Lookup::Known(Command::AccessUnprotect),
-        0xAC => Lookup::Known(Command::FirmwareCrc),
-        0xD4 => Lookup::Known(Command::ResetDevice),
+        code::GET_COMMANDS => Lookup::Known(Command::GetCommands),
+        code::GET_VERSION => Lookup::Known(Command::GetVersion),
+        code::GET_DEVICE_ID => Lookup::Known(Command::GetDeviceId),
+        code::READ_MEMORY => Lookup::Known(Command::ReadMemory),
+        code::JUMP => Lookup::Known(Command::Jump),
+        code::WRITE_MEMORY => Lookup::Known(Command::WriteMemory),
+        code::ERASE => Lookup::Known(Command::Erase),
+        code::PROGRAM_PROTECT => Lookup::Known(Command::ProgramProtect),
+        code::PROGRAM_UNPROTECT => Lookup::Known(Command::ProgramUnprotect),
+        code::ACCESS_PROTECT => Lookup::Known(Command::AccessProtect),
+        code::ACCESS_UNPROTECT => Lookup::Known(Command::AccessUnprotect),
+        code::FIRMWARE_CRC => Lookup::Known(Command::FirmwareCrc),
+        code::RESET_DEVICE => Lookup::Known(Command::ResetDevice),
         _ => Lookup::Unknown,
     }
 }
@@ -81,7 +90,7 @@ fn obeyed(command: Command) -> Decision
 
 // A command that is known and not forbidden is obeyed.
 fn commanded(usd: &[u8], lookup: Lookup) -> Decision
-    requires { ⌜ length (now usd) ≡ 64 ⌝ }
+    requires { ⌜ length (now usd) ≡ extentOf Usd .bytes ⌝ }
     ensures { λ r. ⌜ r ≡ commanded (now (usd .entry)) lookup ⌝ }
 {
     match lookup {
@@ -92,7 +101,7 @@ fn commanded(usd: &[u8], lookup: Lookup) -> Decision
 
 // Whether the first two bytes are a byte and its complement.
 fn complemented(bytes: &[u8]) -> bool
-    requires { ⌜ length (now bytes) ≡ 257 ⌝ }
+    requires { ⌜ length (now bytes) ≡ stagedBytes ⌝ }
     ensures { λ r. ⌜ r ≡ complemented (now (bytes .entry)) ⌝ }
 {
     words::is_complement(bytes[0], bytes[1])
@@ -100,18 +109,18 @@ fn complemented(bytes: &[u8]) -> bool
 
 // The address that the first four bytes write.
 fn address_in(bytes: &[u8]) -> Address
-    requires { ⌜ length (now bytes) ≡ 257 ⌝ }
-    ensures { λ r. ⌜ r ≡ address (number (take 4 (now (bytes .entry)))) ⌝ }
+    requires { ⌜ length (now bytes) ≡ stagedBytes ⌝ }
+    ensures { λ r. ⌜ r ≡ address (number (take addressBytes (now (bytes .entry)))) ⌝ }
 {
     Address(words::number4(bytes[0], bytes[1], bytes[2], bytes[3]))
 }
 
 // What is decided on an address whose XOR, the fifth byte, is right.
 fn addressed(bytes: &[u8], decision: Decision) -> Decision
-    requires { ⌜ length (now bytes) ≡ 257 ⌝ }
-    ensures { λ r. ⌜ r ≡ (if checks (take 4 (now (bytes .entry))) (getD (now (bytes .entry)) 4 0) gives decision else nack BadChecksum) ⌝ }
+    requires { ⌜ length (now bytes) ≡ stagedBytes ⌝ }
+    ensures { λ r. ⌜ r ≡ (if checks (take addressBytes (now (bytes .entry))) (getD (now (bytes .entry)) addressBytes 0) gives decision else nack BadChecksum) ⌝ }
 {
-    let right = bytes[4] == words::xor_from(0, bytes, 4);
+    let right = bytes[ADDRESS_BYTES] == words::xor_from(0, bytes, ADDRESS_BYTES);
     command::accept_if(right, decision, Why::BadChecksum)
 }
 
@@ -131,7 +140,7 @@ fn kept(good: bool, step: Step, expected: usize, address: Address) -> Decision
 
 // The end of the address of 0x11 or 0x31.
 fn region_address(bytes: &[u8], next: Step, expected: usize) -> Decision
-    requires { ⌜ length (now bytes) ≡ 257 ⌝ }
+    requires { ⌜ length (now bytes) ≡ stagedBytes ⌝ }
     ensures { λ r. ⌜ r ≡ addressed (keptIf known next expected) (now (bytes .entry)) ⌝ }
 {
     let address = address_in(bytes);
@@ -140,7 +149,7 @@ fn region_address(bytes: &[u8], next: Step, expected: usize) -> Decision
 
 // The end of the address of 0xAC.
 fn crc_address(bytes: &[u8], next: Step, expected: usize) -> Decision
-    requires { ⌜ length (now bytes) ≡ 257 ⌝ }
+    requires { ⌜ length (now bytes) ≡ stagedBytes ⌝ }
     ensures { λ r. ⌜ r ≡ addressed (keptIf sectorStart next expected) (now (bytes .entry)) ⌝ }
 {
     let address = address_in(bytes);
@@ -152,7 +161,7 @@ fn crc_address(bytes: &[u8], next: Step, expected: usize) -> Decision
 
 // The end of the address of 0x21.
 fn jump_address(bytes: &[u8]) -> Decision
-    requires { ⌜ length (now bytes) ≡ 257 ⌝ }
+    requires { ⌜ length (now bytes) ≡ stagedBytes ⌝ }
     ensures { λ r. ⌜ r ≡ addressed jumping (now (bytes .entry)) ⌝ }
 {
     addressed(bytes, command::jump(address_in(bytes)))
@@ -160,14 +169,14 @@ fn jump_address(bytes: &[u8]) -> Decision
 
 // The count that a byte sends as one less.
 fn count_of(byte: u8) -> usize
-    ensures { λ r. ⌜ (r ≡ countOf (lessOne byte)) × (r ≤ 256) ⌝ }
+    ensures { λ r. ⌜ (r ≡ countOf (lessOne byte)) × (r ≤ largestCount) ⌝ }
 {
     LessOne(byte as u16).count()
 }
 
 // A count has come, and a step for so many bytes and their checksum is entered.
 fn awaits(step: Step, bytes: &[u8]) -> Decision
-    requires { ⌜ length (now bytes) ≡ 257 ⌝ }
+    requires { ⌜ length (now bytes) ≡ stagedBytes ⌝ }
     ensures { λ r. ⌜ r ≡ awaits step (now (bytes .entry)) ⌝ }
 {
     command::answer(
@@ -178,7 +187,7 @@ fn awaits(step: Step, bytes: &[u8]) -> Decision
 
 // Whether the byte behind x bytes is the XOR of them and of x - 1.
 fn checks_counted(bytes: &[u8], x: usize) -> bool
-    requires { ⌜ (length (now bytes) ≡ 257) × (1 ≤ x) × (x ≤ 256) ⌝ }
+    requires { ⌜ (length (now bytes) ≡ stagedBytes) × (1 ≤ x) × (x ≤ largestCount) ⌝ }
     ensures { λ r. ⌜ r ≡ checksCounted x (now (bytes .entry)) ⌝ }
 {
     bytes[x] == words::xor_from((x - 1) as u8, bytes, x)
@@ -186,7 +195,7 @@ fn checks_counted(bytes: &[u8], x: usize) -> bool
 
 // Whether the byte behind x two-byte numbers is the XOR of them and of the selector.
 fn checks_numbered(bytes: &[u8], x: usize) -> bool
-    requires { ⌜ (length (now bytes) ≡ 257) × (1 ≤ x) × (x ≤ 32) ⌝ }
+    requires { ⌜ (length (now bytes) ≡ stagedBytes) × (1 ≤ x) × (x ≤ sectors .count) ⌝ }
     ensures { λ r. ⌜ r ≡ checksNumbered x (now (bytes .entry)) ⌝ }
 {
     let end = 2 * x;
@@ -214,8 +223,8 @@ fn selected(selector: Selector) -> Decision
 
 // The end of a command and its complement.
 fn command_ends(usd: &[u8], bytes: &[u8]) -> Decision
-    requires { ⌜ (length (now usd) ≡ 64) × (length (now bytes) ≡ 257) ⌝ }
-    ensures { λ r. ⌜ r ≡ complete Step.Idle 2 0 (now (bytes .entry)) (now (usd .entry)) ⌝ }
+    requires { ⌜ (length (now usd) ≡ extentOf Usd .bytes) × (length (now bytes) ≡ stagedBytes) ⌝ }
+    ensures { λ r. ⌜ r ≡ complete Step.Idle complementedByte 0 (now (bytes .entry)) (now (usd .entry)) ⌝ }
 {
     command::accept_if(
         complemented(bytes),
@@ -226,8 +235,8 @@ fn command_ends(usd: &[u8], bytes: &[u8]) -> Decision
 
 // The end of a read's length and its complement.
 fn read_ends(address: u32, bytes: &[u8]) -> Decision
-    requires { ⌜ length (now bytes) ≡ 257 ⌝ }
-    ensures { λ r. ⌜ r ≡ complete Step.ReadLength 2 address (now (bytes .entry)) [] ⌝ }
+    requires { ⌜ length (now bytes) ≡ stagedBytes ⌝ }
+    ensures { λ r. ⌜ r ≡ complete Step.ReadLength complementedByte address (now (bytes .entry)) [] ⌝ }
 {
     command::accept_if(
         complemented(bytes),
@@ -238,7 +247,7 @@ fn read_ends(address: u32, bytes: &[u8]) -> Decision
 
 // The end of a write's data and their checksum.
 fn write_ends(usd: &[u8], expected: usize, address: u32, bytes: &[u8]) -> Decision
-    requires { ⌜ (length (now usd) ≡ 64) × (2 ≤ expected) × (expected ≤ 257) × (length (now bytes) ≡ 257) ⌝ }
+    requires { ⌜ (length (now usd) ≡ extentOf Usd .bytes) × (expectedFor 1 ≤ expected) × (expected ≤ expectedFor largestCount) × (length (now bytes) ≡ stagedBytes) ⌝ }
     ensures { λ r. ⌜ r ≡ complete Step.WriteData expected address (now (bytes .entry)) (now (usd .entry)) ⌝ }
 {
     let x = expected - 1;
@@ -251,8 +260,8 @@ fn write_ends(usd: &[u8], expected: usize, address: u32, bytes: &[u8]) -> Decisi
 
 // The end of an erase's selector.
 fn selector_ends(bytes: &[u8]) -> Decision
-    requires { ⌜ length (now bytes) ≡ 257 ⌝ }
-    ensures { λ r. ⌜ r ≡ complete Step.EraseSelector 2 0 (now (bytes .entry)) [] ⌝ }
+    requires { ⌜ length (now bytes) ≡ stagedBytes ⌝ }
+    ensures { λ r. ⌜ r ≡ complete Step.EraseSelector selectorBytes 0 (now (bytes .entry)) [] ⌝ }
 {
     selected(command::selector_of(words::number2(bytes[0], bytes[1])))
 }
@@ -268,8 +277,8 @@ fn special_checks(address: u32, byte: u8) -> bool
 
 // The end of a special erase.
 fn special_ends(usd: &[u8], address: u32, bytes: &[u8]) -> Decision
-    requires { ⌜ (length (now usd) ≡ 64) × (length (now bytes) ≡ 257) ⌝ }
-    ensures { λ r. ⌜ r ≡ complete Step.SpecialCheck 1 address (now (bytes .entry)) (now (usd .entry)) ⌝ }
+    requires { ⌜ (length (now usd) ≡ extentOf Usd .bytes) × (length (now bytes) ≡ stagedBytes) ⌝ }
+    ensures { λ r. ⌜ r ≡ complete Step.SpecialCheck oneByte address (now (bytes .entry)) (now (usd .entry)) ⌝ }
 {
     command::accept_if(
         special_checks(address, bytes[0]),
@@ -283,7 +292,7 @@ fn special_ends(usd: &[u8], address: u32, bytes: &[u8]) -> Decision
 
 // The end of an erase's numbers and their checksum.
 fn erase_ends(usd: &[u8], expected: usize, bytes: &[u8]) -> Decision
-    requires { ⌜ (length (now usd) ≡ 64) × (3 ≤ expected) × (expected ≤ 65) × (length (now bytes) ≡ 257) ⌝ }
+    requires { ⌜ (length (now usd) ≡ extentOf Usd .bytes) × (expectedForNumbers 1 ≤ expected) × (expected ≤ expectedForNumbers (sectors .count)) × (length (now bytes) ≡ stagedBytes) ⌝ }
     ensures { λ r. ⌜ r ≡ complete Step.EraseList expected 0 (now (bytes .entry)) (now (usd .entry)) ⌝ }
 {
     let x = (expected - 1) / 2;
@@ -296,7 +305,7 @@ fn erase_ends(usd: &[u8], expected: usize, bytes: &[u8]) -> Decision
 
 // The end of the indexes of 0x63 and their checksum.
 fn protect_ends(expected: usize, bytes: &[u8]) -> Decision
-    requires { ⌜ (2 ≤ expected) × (expected ≤ 257) × (length (now bytes) ≡ 257) ⌝ }
+    requires { ⌜ (expectedFor 1 ≤ expected) × (expected ≤ expectedFor largestCount) × (length (now bytes) ≡ stagedBytes) ⌝ }
     ensures { λ r. ⌜ r ≡ complete Step.ProtectList expected 0 (now (bytes .entry)) [] ⌝ }
 {
     let x = expected - 1;
@@ -309,11 +318,11 @@ fn protect_ends(expected: usize, bytes: &[u8]) -> Decision
 
 // The end of Firmware CRC's count and its checksum.
 fn crc_ends(address: u32, bytes: &[u8]) -> Decision
-    requires { ⌜ length (now bytes) ≡ 257 ⌝ }
-    ensures { λ r. ⌜ r ≡ complete Step.CrcCount 3 address (now (bytes .entry)) [] ⌝ }
+    requires { ⌜ length (now bytes) ≡ stagedBytes ⌝ }
+    ensures { λ r. ⌜ r ≡ complete Step.CrcCount checkedCount address (now (bytes .entry)) [] ⌝ }
 {
     command::accept_if(
-        bytes[2] == words::xor_from(0xFF, bytes, 2),
+        bytes[2] == words::xor_from(CRC_CHECK, bytes, 2),
         command::sum(
             Address(address),
             LessOne(words::number2(bytes[0], bytes[1])).count(),
@@ -324,7 +333,7 @@ fn crc_ends(address: u32, bytes: &[u8]) -> Decision
 
 // A step whose bytes are all there.
 fn complete(step: Step, expected: usize, address: u32, bytes: &[u8], usd: &[u8]) -> Decision
-    requires { ⌜ T (expects step expected) × (length (now bytes) ≡ 257) × (length (now usd) ≡ 64) ⌝ }
+    requires { ⌜ T (expects step expected) × (length (now bytes) ≡ stagedBytes) × (length (now usd) ≡ extentOf Usd .bytes) ⌝ }
     ensures { λ r. ⌜ r ≡ complete step expected address (now (bytes .entry)) (now (usd .entry)) ⌝ }
 {
     match step {
@@ -354,7 +363,7 @@ pub fn heard(
     bytes: &[u8],
     usd: &[u8],
 ) -> Decision
-    requires { ⌜ (taken < expected) × T (expects (stepOf step) expected) × (length (now bytes) ≡ 257) × (length (now usd) ≡ 64) ⌝ }
+    requires { ⌜ (taken < expected) × T (expects (stepOf step) expected) × (length (now bytes) ≡ stagedBytes) × (length (now usd) ≡ extentOf Usd .bytes) ⌝ }
     ensures { λ r. ⌜ r ≡ (if ltb (taken + 1) expected gives answer Silence Gather else complete (stepOf step) expected address (now (bytes .entry)) (now (usd .entry))) ⌝ }
 {
     let more = taken + 1 < expected;

@@ -4,6 +4,7 @@ pub mod say;
 ghost use mathlib.Core.Path.{_≡_};
 ghost use Rattle.uart.specs.Steps.{stepNo, stepOf, expects};
 use board::Board;
+use board::LessOne;
 
 // The steps of the UART conversation, idle first.
 pub enum Step {
@@ -23,6 +24,9 @@ pub enum Step {
     CrcCount,
 }
 
+// How many steps there are.
+pub const STEPS: u8 = 14;
+
 // What a byte and its complement take.
 pub const COMPLEMENTED_BYTE: usize = 2;
 
@@ -34,6 +38,16 @@ pub const ONE_BYTE: usize = 1;
 
 // What two selector bytes take.
 pub const SELECTOR_BYTES: usize = 2;
+
+// What X bytes and their checksum take, for the least X and for the largest.
+pub const LEAST_COUNTED: usize = 1 + 1;
+
+pub const MOST_COUNTED: usize = LessOne::LARGEST + 1;
+
+// What X two-byte numbers and their checksum take, for the least X and for the largest.
+pub const LEAST_NUMBERED: usize = 2 + 1;
+
+pub const MOST_NUMBERED: usize = 2 * Board::SECTORS + 1;
 
 // What a count of two bytes and its checksum take.
 pub const CHECKED_COUNT: usize = 3;
@@ -94,9 +108,9 @@ impl Step {
                 n == CHECKED_ADDRESS
             }
             Step::WriteLength | Step::SpecialCheck | Step::ProtectLength => n == ONE_BYTE,
-            Step::WriteData | Step::ProtectList => (2 <= n) & (n <= 257),
+            Step::WriteData | Step::ProtectList => (LEAST_COUNTED <= n) & (n <= MOST_COUNTED),
             Step::EraseSelector => n == SELECTOR_BYTES,
-            Step::EraseList => (3 <= n) & (n <= 2 * Board::SECTORS + 1) & (n % 2 == 1),
+            Step::EraseList => (LEAST_NUMBERED <= n) & (n <= MOST_NUMBERED) & (n % 2 == 1),
             Step::CrcCount => n == CHECKED_COUNT,
         }
     }

@@ -7,18 +7,36 @@ ghost use Rattle.words.specs.Bytes.{fourBytes};
 ghost use Rattle.words.specs.Lists.{join, part};
 ghost use Rattle.words.specs.Over.{put};
 ghost use Rattle.board.specs.Board.{extentOf};
+ghost use Rattle.board.specs.Quantities.{largestCount};
 ghost use Rattle.crc.specs.Crc.{crc};
 ghost use Rattle.memories.specs.Memories.{Memories, memories, proper, bytesOf};
 ghost use Rattle.command.specs.Says.{ackByte, says, sayable, fixed, Said};
-ghost use Rattle.uart.specs.Conversation.{commandBytes};
+ghost use Rattle.uart.specs.Conversation.{uartRoom, commandBytes};
 use board::Board;
 use board::Region;
 use command::Reply;
+use command::code;
 
 // ACK and NACK.
 pub const ACK: u8 = 0x79;
 
 pub const NACK: u8 = 0x1F;
+
+// The room that a reply may need.
+pub const ROOM: usize = 257;
+
+// n, which counts version and commands.
+const N: u8 = 0x0E;
+
+// The byte before the product ID.
+const DEVICE_TOLD: u8 = 0x04;
+
+// The bytes of the replies to 0x01, to 0x02 and of a checksum.
+const VERSION_LENGTH: usize = 5;
+
+const DEVICE_LENGTH: usize = 8;
+
+const SUM_LENGTH: usize = 5;
 
 // The bytes of the longest fixed reply, that to 0x00.
 const LONGEST: usize = 17;
@@ -29,21 +47,21 @@ const ACK_NACK: [u8; LONGEST] = [ACK, NACK, 0, 0, 0, 0, 0, 0, 0, 0, 0, 0, 0, 0, 
 // What 0x00 tells, between two ACKs.
 const COMMANDS: [u8; LONGEST] = [
     ACK,
-    0x0E,
+    N,
     Board::VERSION,
-    0x00,
-    0x01,
-    0x02,
-    0x11,
-    0x21,
-    0x31,
-    0x44,
-    0x63,
-    0x73,
-    0x82,
-    0x92,
-    0xAC,
-    0xD4,
+    code::GET_COMMANDS,
+    code::GET_VERSION,
+    code::GET_DEVICE_ID,
+    code::READ_MEMORY,
+    code::JUMP,
+    code::WRITE_MEMORY,
+    code::ERASE,
+    code::PROGRAM_PROTECT,
+    code::PROGRAM_UNPROTECT,
+    code::ACCESS_PROTECT,
+    code::ACCESS_UNPROTECT,
+    code::FIRMWARE_CRC,
+    code::RESET_DEVICE,
     ACK,
 ];
 
@@ -71,7 +89,7 @@ const VERSION: [u8; LONGEST] = [
 // What 0x02 tells, between two ACKs.
 const DEVICE: [u8; LONGEST] = [
     ACK,
-    0x04,
+    DEVICE_TOLD,
     (Board::PRODUCT / 256 % 256) as u8,
     (Board::PRODUCT % 256) as u8,
     (Board::PRODUCT / 16777216 % 256) as u8,
@@ -91,7 +109,7 @@ const DEVICE: [u8; LONGEST] = [
 
 // Writes ACK and x bytes of a memory.
 fn say_bytes(memory: &[u8], at: usize, x: usize, buffer: &mut [u8]) -> usize
-    requires { ⌜ (x ≤ 256) × (at + x ≤ length (now memory)) × (257 ≤ length (now buffer)) ⌝ }
+    requires { ⌜ (x ≤ largestCount) × (at + x ≤ length (now memory)) × (uartRoom ≤ length (now buffer)) ⌝ }
     ensures { λ r. ⌜ (r ≡ x + 1) × (now (buffer .exit) ≡ put (now (buffer .entry)) 0 (ackByte ∷ part at x (now (memory .entry)))) ⌝ }
 {
     buffer[0] = ACK;
@@ -101,8 +119,8 @@ fn say_bytes(memory: &[u8], at: usize, x: usize, buffer: &mut [u8]) -> usize
 
 // Writes ACK and the four bytes of a checksum, high first.
 fn say_crc(value: u32, buffer: &mut [u8]) -> usize
-    requires { ⌜ 257 ≤ length (now buffer) ⌝ }
-    ensures { λ r. ⌜ (r ≡ 5) × (now (buffer .exit) ≡ put (now (buffer .entry)) 0 (ackByte ∷ fourBytes value)) ⌝ }
+    requires { ⌜ uartRoom ≤ length (now buffer) ⌝ }
+    ensures { λ r. ⌜ (r ≡ length (ackByte ∷ fourBytes value)) × (now (buffer .exit) ≡ put (now (buffer .entry)) 0 (ackByte ∷ fourBytes value)) ⌝ }
 {
     let told = [
         ACK,
@@ -111,8 +129,8 @@ fn say_crc(value: u32, buffer: &mut [u8]) -> usize
         (value / 256 % 256) as u8,
         (value % 256) as u8,
     ];
-    words::copy(buffer, 0, &told, 0, 5);
-    5
+    words::copy(buffer, 0, &told, 0, SUM_LENGTH);
+    SUM_LENGTH
 }
 
 // Writes x bytes of a region behind ACK.
@@ -125,7 +143,7 @@ fn say_data(
     usd: &[u8],
     buffer: &mut [u8],
 ) -> usize
-    requires { ⌜ T (proper (memories (now flash) (now sram) (now usd))) × (x ≤ 256) × (at + x ≤ extentOf region .bytes) × (257 ≤ length (now buffer)) ⌝ }
+    requires { ⌜ T (proper (memories (now flash) (now sram) (now usd))) × (x ≤ largestCount) × (at + x ≤ extentOf region .bytes) × (uartRoom ≤ length (now buffer)) ⌝ }
     ensures { λ r. ⌜ (r ≡ x + 1) × (now (buffer .exit) ≡ put (now (buffer .entry)) 0 (ackByte ∷ part at x (bytesOf region (memories (now (flash .entry)) (now (sram .entry)) (now (usd .entry)))))) ⌝ }
 {
     match region {
@@ -144,7 +162,7 @@ struct Fixed {
 // The bytes of a reply that tells nothing of a memory.
 fn fixed_bytes(reply: Reply) -> Fixed
     requires { ⌜ T (fixed reply) ⌝ }
-    ensures { λ r. ⌜ (r .count ≤ 17) × (length (r .bytes) ≡ 17) × ((m : Memories) → take (r .count) (r .bytes) ≡ join (says commandBytes reply m)) ⌝ }
+    ensures { λ r. ⌜ (r .count ≤ length (r .bytes)) × (length (r .bytes) ≤ uartRoom) × ((m : Memories) → take (r .count) (r .bytes) ≡ join (says commandBytes reply m)) ⌝ }
 {
     match reply {
         Reply::Ack => Fixed {
@@ -169,11 +187,11 @@ fn fixed_bytes(reply: Reply) -> Fixed
         },
         Reply::Version => Fixed {
             bytes: VERSION,
-            count: 5,
+            count: VERSION_LENGTH,
         },
         Reply::DeviceId => Fixed {
             bytes: DEVICE,
-            count: 8,
+            count: DEVICE_LENGTH,
         },
         _ => Fixed {
             bytes: [0; LONGEST],
@@ -184,8 +202,8 @@ fn fixed_bytes(reply: Reply) -> Fixed
 
 // Writes the checksum of n bytes of flash behind ACK.
 fn say_sum(flash: &[u8], at: usize, n: usize, buffer: &mut [u8]) -> usize
-    requires { ⌜ (at + n ≤ length (now flash)) × (257 ≤ length (now buffer)) ⌝ }
-    ensures { λ r. ⌜ (r ≡ 5) × (now (buffer .exit) ≡ put (now (buffer .entry)) 0 (ackByte ∷ fourBytes (crc (part at n (now (flash .entry)))))) ⌝ }
+    requires { ⌜ (at + n ≤ length (now flash)) × (uartRoom ≤ length (now buffer)) ⌝ }
+    ensures { λ r. ⌜ (r ≡ length (ackByte ∷ fourBytes (crc (part at n (now (flash .entry)))))) × (now (buffer .exit) ≡ put (now (buffer .entry)) 0 (ackByte ∷ fourBytes (crc (part at n (now (flash .entry)))))) ⌝ }
 {
     let end = at + n;
     say_crc(crc::crc(&flash[at..end]), buffer)
@@ -193,7 +211,7 @@ fn say_sum(flash: &[u8], at: usize, n: usize, buffer: &mut [u8]) -> usize
 
 // Writes a reply that can be given, and tells its length.
 pub fn say(reply: Reply, flash: &[u8], sram: &[u8], usd: &[u8], buffer: &mut [u8]) -> usize
-    requires { ⌜ T (proper (memories (now flash) (now sram) (now usd))) × T (sayable reply) × (257 ≤ length (now buffer)) ⌝ }
+    requires { ⌜ T (proper (memories (now flash) (now sram) (now usd))) × T (sayable reply) × (uartRoom ≤ length (now buffer)) ⌝ }
     ensures { λ r. ⌜ Said (join (says commandBytes reply (memories (now (flash .entry)) (now (sram .entry)) (now (usd .entry))))) r (now (buffer .entry)) (now (buffer .exit)) ⌝ }
 {
     match reply {

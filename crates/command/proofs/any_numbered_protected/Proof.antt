@@ -29,7 +29,7 @@ any-numbered-protected-spec =
     Inv-loop
     μ-loop
     (λ c. omega arith)
-    (λ c. (omega arith, refl, c .before .before .pre .3, refl))
+    (λ c. (omega arith, refl, c .before .before .pre .2, refl))
     (λ c. omega arith)
     (λ c. omega arith)
     (λ c. omega arith)

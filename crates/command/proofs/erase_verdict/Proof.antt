@@ -15,6 +15,6 @@ erase-verdict-spec =
     (tie.spec
     (λ c κs. search needs)
     (λ c. rw (sym (c .before .all-numbered .ensures) ∙ not-true _ (c .if1 .taken)))
-    (λ c κs. (omega arith, omega arith, omega arith, subst T (sym (sym (c .before .all-numbered .ensures) ∙ not-false _ (c .if1 .left))) tt))
+    (λ c κs. (omega arith, omega arith, subst T (sym (sym (c .before .all-numbered .ensures) ∙ not-false _ (c .if1 .left))) tt))
     (λ c. rw (sym (c .before .before .before .all-numbered .ensures) ∙ not-false _ (c .before .before .if1 .left), sym (c .before .any-numbered-protected .ensures) ∙ c .if2 .taken))
     (λ c. rw (sym (c .before .before .before .all-numbered .ensures) ∙ not-false _ (c .before .before .if1 .left), sym (c .before .any-numbered-protected .ensures) ∙ c .if2 .left)))

@@ -12,8 +12,6 @@ expects-spec =
     (λ c. search needs)
     (λ c. search needs)
     (λ c. search needs)
-    (λ c. search needs)
-    (λ c. search needs)
     (λ c. ⊎-elim (λ h. rw (declared-at (c .before .args .self) 0 h)) (λ h. rw (declared-at (c .before .args .self) 5 h)) (c .match .keys1))
     (λ c. ⊎-elim (λ h. rw (declared-at (c .before .args .self) 1 h)) (⊎-elim (λ h. rw (declared-at (c .before .args .self) 2 h)) (⊎-elim (λ h. rw (declared-at (c .before .args .self) 3 h)) (λ h. rw (declared-at (c .before .args .self) 4 h)))) (c .match .keys2))
     (λ c. ⊎-elim (λ h. rw (declared-at (c .before .args .self) 6 h)) (⊎-elim (λ h. rw (declared-at (c .before .args .self) 9 h)) (λ h. rw (declared-at (c .before .args .self) 11 h))) (c .match .keys3))
