@@ -1,4 +1,7 @@
+mod address;
+mod checksum;
 pub mod conversation;
+mod obey;
 pub mod say;
 
 ghost use mathlib.Core.Path.{_≡_};

@@ -1,0 +1,16 @@
+-- The count is summed first, and then the bytes.
+use borrow.Author.Needs.{needs}
+use lib.Bits.{xor-zero-l}
+use Prim.Native.Nat.{_-_}
+use Rattle.uart.proofs.checksum.checks_counted.Statement.{statement}
+use Rattle.uart.proofs.checksum.checks_counted.Tie as tie
+
+pub checks-counted-spec : {M : Type 1} → statement M
+checks-counted-spec =
+    tie.close
+    (tie.spec
+    (λ c. search needs)
+    (λ c. search needs)
+    (λ c. search needs)
+    (λ c κs. search needs)
+    (λ c. rw (c .xor-from .ensures, xor-zero-l (c .before .before .before .args .x - 1))))
