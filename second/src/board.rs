@@ -17,6 +17,11 @@ impl Region {
         (offset < self.bytes && end <= self.bytes).then_some(offset)
     }
 
+    /// The address just behind the region.
+    pub fn end(&self) -> u32 {
+        self.first + self.bytes as u32
+    }
+
     /// Tells whether `address` lies in this region.
     pub fn holds(&self, address: u32) -> bool {
         self.offset_of(address, 1).is_some()

@@ -3,6 +3,7 @@
 use crate::can;
 use crate::frame::{Frame, FRAME_BYTES};
 use crate::memories::Memories;
+use crate::refused::Refused;
 use crate::reply::Reply;
 use crate::session::{Session, Step};
 use crate::uart;
@@ -32,6 +33,25 @@ pub enum Cause {
     Running = 5,
 }
 
+/// What an accepted call answered.
+#[derive(Clone, Copy, Debug, PartialEq, Eq)]
+pub struct Taken {
+    /// The reply length in bytes.
+    pub length: usize,
+    /// The rule that refused the command, if one did; the reply then ends with NACK.
+    pub refused: Option<Refused>,
+}
+
+impl Taken {
+    /// What the reply holds after an input that ended like this.
+    fn of(reply: Reply, ended: Result<(), Refused>) -> Taken {
+        Taken {
+            length: reply.length(),
+            refused: ended.err(),
+        }
+    }
+}
+
 /// What a call hands back: its number, the reply length and the next session.
 #[derive(Clone, Copy, Debug, PartialEq, Eq)]
 pub struct Outcome {
@@ -45,11 +65,11 @@ pub struct Outcome {
 
 impl Outcome {
     /// The outcome of an in-place call that left this session.
-    fn of(called: Result<usize, Cause>, session: Session) -> Outcome {
+    fn of(called: Result<Taken, Cause>, session: Session) -> Outcome {
         match called {
-            Ok(length) => Outcome {
+            Ok(taken) => Outcome {
                 number: ACCEPTED,
-                length,
+                length: taken.length,
                 session,
             },
             Err(cause) => Outcome {
@@ -83,43 +103,49 @@ pub fn take_can_frame(
     Outcome::of(called, session)
 }
 
-/// Takes one UART byte, changing the session in place, and gives the reply length.
+/// Takes one UART byte, changing the session in place, and tells what was answered.
 pub fn uart_byte_in_place(
     session: &mut Session,
     byte: u8,
     memories: &mut Memories,
     reply: &mut [u8],
-) -> Result<usize, Cause> {
+) -> Result<Taken, Cause> {
     test_buffers(memories, reply, UART_REPLY_BYTES)?;
     let step = session.sound_step().ok_or(Cause::UnsoundSession)?;
     let mut reply = Reply::in_buffer(reply);
-    match step {
+    let ended = match step {
         Step::Running => return Err(Cause::Running),
-        Step::None => uart::connect(session, byte, &mut reply),
+        Step::None => {
+            uart::connect(session, byte, &mut reply);
+            Ok(())
+        }
         Step::Uart(step) => uart::take_byte(step, session, byte, memories, &mut reply),
-        Step::Can(_) => {}
-    }
-    Ok(reply.length())
+        Step::Can(_) => Ok(()),
+    };
+    Ok(Taken::of(reply, ended))
 }
 
-/// Takes one CAN frame, changing the session in place, and gives the reply length.
+/// Takes one CAN frame, changing the session in place, and tells what was answered.
 pub fn can_frame_in_place(
     session: &mut Session,
     frame: &[u8],
     memories: &mut Memories,
     reply: &mut [u8],
-) -> Result<usize, Cause> {
+) -> Result<Taken, Cause> {
     test_buffers(memories, reply, CAN_REPLY_BYTES)?;
     let frame = Frame::read(frame).ok_or(Cause::BadFrame)?;
     let step = session.sound_step().ok_or(Cause::UnsoundSession)?;
     let mut reply = Reply::in_buffer(reply);
-    match step {
+    let ended = match step {
         Step::Running => return Err(Cause::Running),
-        Step::None => can::connect(session, &frame, &mut reply),
+        Step::None => {
+            can::connect(session, &frame, &mut reply);
+            Ok(())
+        }
         Step::Can(step) => can::take_frame(step, session, &frame, memories, &mut reply),
-        Step::Uart(_) => {}
-    }
-    Ok(reply.length())
+        Step::Uart(_) => Ok(()),
+    };
+    Ok(Taken::of(reply, ended))
 }
 
 /// Tests the lengths of the memories and then of the reply buffer.

@@ -5,9 +5,10 @@ use crate::commands::{
     CAN_LIST, DEVICE_ID, ERASE, FIRMWARE_CRC, GET_COMMANDS, GET_DEVICE_ID, GET_VERSION, JUMP,
     PROTECT, READ_MEMORY, RESET_DEVICE, SPEED, UNPROTECT, VERSION, WRITE_MEMORY,
 };
-use crate::effects::{self, require, Refused};
+use crate::effects;
 use crate::frame::{frame_bytes, Frame, FRAME_DATA_BYTES};
 use crate::memories::Memories;
+use crate::refused::{require, Refused};
 use crate::reply::{Reply, ACK, NACK};
 use crate::session::{CanStep, Next, Session, Step, HIGHEST_SPEED};
 
@@ -53,7 +54,7 @@ pub fn take_frame(
     frame: &Frame,
     memories: &mut Memories,
     reply: &mut Reply,
-) {
+) -> Result<(), Refused> {
     let mut frames = Frames {
         id: running_id(step).unwrap_or(frame.id),
         reply,
@@ -62,10 +63,11 @@ pub fn take_frame(
         CanStep::Idle => command(frame, memories, &mut frames),
         _ => gather(step, session, frame, memories, &mut frames),
     };
-    session.go(taken.unwrap_or_else(|Refused| {
+    session.go(taken.unwrap_or_else(|_| {
         frames.send(&[NACK]);
         Next::Idle
     }));
+    taken.map(|_| ())
 }
 
 /// The ID of the command that a gathering step stands for.
@@ -92,8 +94,10 @@ fn needed_dlc(command: u16) -> Option<usize> {
 
 /// Takes a command frame: its ID is the command.
 fn command(frame: &Frame, memories: &mut Memories, frames: &mut Frames) -> Result<Next, Refused> {
-    require(needed_dlc(frame.id).is_none_or(|dlc| dlc == frame.dlc))?;
-    require(!(is_protected(frame.id) && effects::protection_is_on(memories)))?;
+    let dlc_fits = needed_dlc(frame.id).is_none_or(|dlc| dlc == frame.dlc);
+    require(dlc_fits, Refused::Dlc)?;
+    let locked = is_protected(frame.id) && effects::protection_is_on(memories.usd);
+    require(!locked, Refused::Protected)?;
     match frame.id {
         GET_COMMANDS => Ok(tell(&[(CAN_LIST.len() - 1) as u8], &CAN_LIST, frames)),
         GET_VERSION => Ok(tell(&[], &VERSION, frames)),
@@ -113,7 +117,7 @@ fn command(frame: &Frame, memories: &mut Memories, frames: &mut Frames) -> Resul
             frames.send_each(&[ACK, ACK]);
             Ok(effects::resetting(frame.id, memories))
         }
-        _ => Err(Refused),
+        _ => Err(Refused::Unknown),
     }
 }
 
@@ -129,7 +133,7 @@ fn tell(head: &[u8], body: &[u8], frames: &mut Frames) -> Next {
 /// Takes 0x03: the first byte 0 to 3 is the new speed, the second byte is free.
 fn speed(frame: &Frame, frames: &mut Frames) -> Result<Next, Refused> {
     let speed = frame.bytes[0];
-    require(speed <= HIGHEST_SPEED)?;
+    require(speed <= HIGHEST_SPEED, Refused::Speed)?;
     frames.send_each(&[ACK, ACK]);
     Ok(Next::IdleAtSpeed(speed))
 }
@@ -177,7 +181,7 @@ fn erase(frame: &Frame, memories: &mut Memories, frames: &mut Frames) -> Result<
             frames.send(&[ACK]);
             Ok(next)
         }
-        EraseSelector::Other => Err(Refused),
+        EraseSelector::Other => Err(Refused::Selector),
     }
 }
 
@@ -198,9 +202,11 @@ fn gather(
     memories: &mut Memories,
     frames: &mut Frames,
 ) -> Result<Next, Refused> {
-    require(frame.id == frames.id && frame.dlc > 0)?;
+    require(frame.id == frames.id, Refused::OtherId)?;
+    require(frame.dlc > 0, Refused::DlcZero)?;
     let room = session.expected - session.taken;
-    require(frame.dlc <= room || step == CanStep::WriteData)?;
+    let fits = frame.dlc <= room || step == CanStep::WriteData;
+    require(fits, Refused::ExtraBytes)?;
     for byte in frame.data().iter().take(room) {
         session.stage(*byte);
     }
@@ -220,7 +226,7 @@ fn end_gathering(
 ) -> Result<Next, Refused> {
     let bytes = &session.staged[..session.expected];
     match step {
-        CanStep::Idle => Err(Refused),
+        CanStep::Idle => Err(Refused::Unknown),
         CanStep::WriteData => effects::write(memories, session.address, bytes),
         CanStep::EraseList => effects::erase_list(memories, bytes),
         CanStep::ProtectList => effects::protect_only(memories, bytes),

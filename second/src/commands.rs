@@ -58,6 +58,9 @@ pub const DEVICE_ID: [u8; 6] = [
     PROJECT_ID,
 ];
 
+/// The commands that only ask.
+pub const ASKING: [u16; 3] = [GET_COMMANDS, GET_VERSION, GET_DEVICE_ID];
+
 /// Tells whether a command is NACKed at once while protection is on.
 pub fn is_protected(command: u16) -> bool {
     matches!(

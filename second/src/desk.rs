@@ -95,7 +95,7 @@ impl Desk {
         let memories = &mut self.store.lend();
         for byte in bytes {
             let called = uart_byte_in_place(&mut self.session, *byte, memories, &mut self.reply);
-            for replied in &self.reply[..called.unwrap_or(0)] {
+            for replied in &self.reply[..called.map_or(0, |taken| taken.length)] {
                 answers.push(b' ');
                 print_byte(*replied, answers);
             }
@@ -107,7 +107,8 @@ impl Desk {
         let frame = frame_bytes(id, data);
         let memories = &mut self.store.lend();
         let called = can_frame_in_place(&mut self.session, &frame, memories, &mut self.reply);
-        for replied in self.reply[..called.unwrap_or(0)].chunks_exact(FRAME_BYTES) {
+        let length = called.map_or(0, |taken| taken.length);
+        for replied in self.reply[..length].chunks_exact(FRAME_BYTES) {
             print_frame(replied, answers);
         }
     }

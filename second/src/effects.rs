@@ -7,11 +7,8 @@ use crate::board::{
 use crate::commands::{ACCESS_PROTECT, ACCESS_UNPROTECT, UNPROTECT};
 use crate::crc::crc32_mpeg2;
 use crate::memories::Memories;
+use crate::refused::{require, Refused};
 use crate::session::Next;
-
-/// A rule refuses the command, which is answered with NACK.
-#[derive(Clone, Copy, Debug, PartialEq, Eq)]
-pub struct Refused;
 
 /// The special erase selector of the first bank, which is all flash.
 const ERASE_BANK_1: u32 = 0xFFFE;
@@ -33,33 +30,25 @@ pub enum Place {
     Usd,
 }
 
-/// Refuses unless a rule holds.
-pub fn require(rule: bool) -> Result<(), Refused> {
-    if rule {
-        Ok(())
-    } else {
-        Err(Refused)
-    }
-}
-
 /// Tells whether access protection is on.
-pub fn protection_is_on(memories: &Memories) -> bool {
-    memories.usd[ACCESS_BYTE] != ACCESS_OPEN
+pub fn protection_is_on(usd: &[u8]) -> bool {
+    usd[ACCESS_BYTE] != ACCESS_OPEN
 }
 
 /// Tells whether a sector is write-protected: bit k mod 8 of USD byte 8 + k/8 is 0.
-fn sector_is_protected(memories: &Memories, sector: usize) -> bool {
-    memories.usd[SECTOR_BITS_FIRST + sector / 8] & (1 << (sector % 8)) == 0
+pub fn sector_is_protected(usd: &[u8], sector: usize) -> bool {
+    usd[SECTOR_BITS_FIRST + sector / 8] & (1 << (sector % 8)) == 0
 }
 
 /// Tells whether any sector is write-protected.
-fn any_sector_is_protected(memories: &Memories) -> bool {
-    (0..SECTORS).any(|sector| sector_is_protected(memories, sector))
+pub fn any_sector_is_protected(usd: &[u8]) -> bool {
+    (0..SECTORS).any(|sector| sector_is_protected(usd, sector))
 }
 
 /// Refuses an address that is in no region.
 pub fn in_a_region(address: u32) -> Result<(), Refused> {
-    require(FLASH.holds(address) || SRAM.holds(address) || USD.holds(address))
+    let held = FLASH.holds(address) || SRAM.holds(address) || USD.holds(address);
+    require(held, Refused::NoRegion)
 }
 
 /// The X bytes from an address on, when they all lie in one region.
@@ -71,7 +60,7 @@ pub fn read<'m>(memories: &'m Memories, address: u32, x: usize) -> Result<&'m [u
     } else if let Some(offset) = USD.offset_of(address, x) {
         Ok(&memories.usd[offset..offset + x])
     } else {
-        Err(Refused)
+        Err(Refused::Range)
     }
 }
 
@@ -79,12 +68,15 @@ pub fn read<'m>(memories: &'m Memories, address: u32, x: usize) -> Result<&'m [u
 pub fn writable(memories: &Memories, address: u32, x: usize) -> Result<Place, Refused> {
     if let Some(offset) = FLASH.offset_of(address, x) {
         let mut touched = offset / SECTOR_BYTES..(offset + x).div_ceil(SECTOR_BYTES);
-        require(!touched.any(|sector| sector_is_protected(memories, sector)))?;
+        let protected = touched.any(|sector| sector_is_protected(memories.usd, sector));
+        require(!protected, Refused::ProtectedSector)?;
         Ok(Place::Flash(offset))
     } else if let Some(offset) = SRAM.offset_of(address, x) {
         Ok(Place::Sram(offset))
     } else {
-        require(address == USD.first && x == USD.bytes)?;
+        require(USD.offset_of(address, x).is_some(), Refused::Range)?;
+        let whole = address == USD.first && x == USD.bytes;
+        require(whole, Refused::UsdRule)?;
         Ok(Place::Usd)
     }
 }
@@ -112,7 +104,9 @@ pub fn write(memories: &mut Memories, address: u32, data: &[u8]) -> Result<Next,
 /// Erases the sectors named by two-byte numbers, high first, or refuses the whole list.
 pub fn erase_list(memories: &mut Memories, list: &[u8]) -> Result<Next, Refused> {
     for sector in sector_numbers(list) {
-        require(sector < SECTORS && !sector_is_protected(memories, sector))?;
+        require(sector < SECTORS, Refused::SectorNumber)?;
+        let protected = sector_is_protected(memories.usd, sector);
+        require(!protected, Refused::ProtectedSector)?;
     }
     for sector in sector_numbers(list) {
         let first = sector * SECTOR_BYTES;
@@ -129,8 +123,10 @@ fn sector_numbers(list: &[u8]) -> impl Iterator<Item = usize> + '_ {
 
 /// Erases all flash for the two selectors that mean it, unless a sector is write-protected.
 pub fn erase_special(memories: &mut Memories, selector: u32) -> Result<Next, Refused> {
-    require(selector == ERASE_ALL || selector == ERASE_BANK_1)?;
-    require(!any_sector_is_protected(memories))?;
+    let all_flash = selector == ERASE_ALL || selector == ERASE_BANK_1;
+    require(all_flash, Refused::SpecialErase)?;
+    let protected = any_sector_is_protected(memories.usd);
+    require(!protected, Refused::ProtectedSector)?;
     memories.flash.fill(ERASED);
     Ok(Next::Idle)
 }
@@ -140,7 +136,7 @@ pub fn protect_only(memories: &mut Memories, indexes: &[u8]) -> Result<Next, Ref
     let mut bits = NO_SECTOR_PROTECTED;
     for index in indexes {
         let sector = usize::from(*index);
-        require(sector < SECTORS)?;
+        require(sector < SECTORS, Refused::SectorNumber)?;
         bits[sector / 8] &= !(1 << (sector % 8));
     }
     set_sector_bits(memories, bits);
@@ -166,7 +162,7 @@ fn set_sector_bits(memories: &mut Memories, bits: [u8; SECTOR_BITS_BYTES]) {
 
 /// Turns access protection off and wipes flash and SRAM, if it was on.
 fn access_unprotect(memories: &mut Memories) {
-    if protection_is_on(memories) {
+    if protection_is_on(memories.usd) {
         memories.flash.fill(ERASED);
         memories.sram.fill(0);
         memories.usd[ACCESS_BYTE] = ACCESS_OPEN;
@@ -175,20 +171,23 @@ fn access_unprotect(memories: &mut Memories) {
 
 /// Refuses a jump unless its address is in flash or SRAM.
 pub fn jump(address: u32) -> Result<Next, Refused> {
-    require(FLASH.holds(address) || SRAM.holds(address))?;
+    let runs = FLASH.holds(address) || SRAM.holds(address);
+    require(runs, Refused::JumpAddress)?;
     Ok(Next::Running(address))
 }
 
 /// Refuses an address that is not a sector start in flash.
 pub fn sector_start(address: u32) -> Result<(), Refused> {
-    let offset = FLASH.offset_of(address, 1).ok_or(Refused)?;
-    require(offset.is_multiple_of(SECTOR_BYTES))
+    let offset = FLASH.offset_of(address, 1).ok_or(Refused::SectorStart)?;
+    require(offset.is_multiple_of(SECTOR_BYTES), Refused::SectorStart)
 }
 
 /// The CRC over whole sectors from a sector start on, all inside flash.
 pub fn firmware_crc(memories: &Memories, address: u32, sectors: usize) -> Result<u32, Refused> {
     sector_start(address)?;
     let bytes = sectors * SECTOR_BYTES;
-    let offset = FLASH.offset_of(address, bytes).ok_or(Refused)?;
+    let offset = FLASH
+        .offset_of(address, bytes)
+        .ok_or(Refused::SectorRange)?;
     Ok(crc32_mpeg2(&memories.flash[offset..offset + bytes]))
 }

@@ -10,6 +10,8 @@ pub mod desk;
 pub mod frame;
 pub mod line;
 pub mod memories;
+pub mod refused;
+pub mod script;
 pub mod session;
 
 mod can;

@@ -6,7 +6,7 @@ use crate::frame::FRAME_DATA_BYTES;
 pub const LINE_CHARACTERS: usize = 800;
 
 /// The characters of a byte field: a space and two hex digits.
-const BYTE_FIELD: usize = 3;
+pub const BYTE_FIELD: usize = 3;
 
 /// The most byte fields that fit in a line.
 pub const LINE_BYTES: usize = LINE_CHARACTERS / BYTE_FIELD;

@@ -5,13 +5,14 @@ use crate::commands::{
     DEVICE_ID, ERASE, FIRMWARE_CRC, GET_COMMANDS, GET_DEVICE_ID, GET_VERSION, JUMP, PROTECT,
     READ_MEMORY, RESET_DEVICE, UART_LIST, UNPROTECT, VERSION, WRITE_MEMORY,
 };
-use crate::effects::{self, require, Refused};
+use crate::effects;
 use crate::memories::Memories;
+use crate::refused::{require, Refused};
 use crate::reply::{Reply, ACK, NACK};
 use crate::session::{Next, Session, Step, UartStep};
 
 /// The byte that connects UART.
-const CONNECT_BYTE: u8 = 0x7F;
+pub const CONNECT_BYTE: u8 = 0x7F;
 
 /// Takes one byte while no carrier is connected.
 pub fn connect(session: &mut Session, byte: u8, reply: &mut Reply) {
@@ -28,16 +29,17 @@ pub fn take_byte(
     byte: u8,
     memories: &mut Memories,
     reply: &mut Reply,
-) {
+) -> Result<(), Refused> {
     session.stage(byte);
     if !session.has_all() {
-        return;
+        return Ok(());
     }
     let ended = end_step(step, session, memories, reply);
-    session.go(ended.unwrap_or_else(|Refused| {
+    session.go(ended.unwrap_or_else(|_| {
         reply.push(NACK);
         Next::Idle
     }));
+    ended.map(|_| ())
 }
 
 /// Ends a step that has all it expects; it replies nothing before its last test has passed.
@@ -70,9 +72,10 @@ fn end_step(
 
 /// Ends the idle step: a command and its complement, refused if wrong, unknown or protected.
 fn command(bytes: &[u8], memories: &mut Memories, reply: &mut Reply) -> Result<Next, Refused> {
-    require(bytes[1] == !bytes[0])?;
+    require(bytes[1] == !bytes[0], Refused::Complement)?;
     let command = u16::from(bytes[0]);
-    require(!(is_protected(command) && effects::protection_is_on(memories)))?;
+    let locked = is_protected(command) && effects::protection_is_on(memories.usd);
+    require(!locked, Refused::Protected)?;
     match command {
         GET_COMMANDS => Ok(tell(&[UART_LIST.len() as u8], &UART_LIST, reply)),
         GET_VERSION => Ok(tell(&[], &VERSION, reply)),
@@ -87,7 +90,7 @@ fn command(bytes: &[u8], memories: &mut Memories, reply: &mut Reply) -> Result<N
             reply.extend(&[ACK, ACK]);
             Ok(effects::resetting(command, memories))
         }
-        _ => Err(Refused),
+        _ => Err(Refused::Unknown),
     }
 }
 
@@ -112,14 +115,14 @@ fn enter_list(step: UartStep, bytes: &[u8]) -> Next {
 }
 
 /// The XOR of all the bytes.
-fn xor(bytes: &[u8]) -> u8 {
+pub fn xor(bytes: &[u8]) -> u8 {
     bytes.iter().fold(0, |sum, byte| sum ^ byte)
 }
 
 /// The four address bytes, high first, refused if the fifth is not their XOR.
 fn checked_address(bytes: &[u8]) -> Result<u32, Refused> {
     let address = [bytes[0], bytes[1], bytes[2], bytes[3]];
-    require(bytes[4] == xor(&address))?;
+    require(bytes[4] == xor(&address), Refused::Checksum)?;
     Ok(u32::from_be_bytes(address))
 }
 
@@ -127,7 +130,7 @@ fn checked_address(bytes: &[u8]) -> Result<u32, Refused> {
 fn checked_items(bytes: &[u8], x: usize) -> Result<&[u8], Refused> {
     let (items, check) = bytes.split_at(bytes.len() - 1);
     let sent = (x - 1) as u8;
-    require(check[0] == sent ^ xor(items))?;
+    require(check[0] == sent ^ xor(items), Refused::Checksum)?;
     Ok(items)
 }
 
@@ -161,7 +164,7 @@ fn read_length(
     memories: &Memories,
     reply: &mut Reply,
 ) -> Result<Next, Refused> {
-    require(bytes[1] == !bytes[0])?;
+    require(bytes[1] == !bytes[0], Refused::Complement)?;
     let data = effects::read(memories, address, count_sent_as_one_less(bytes[0]))?;
     reply.push(ACK);
     reply.extend(data);
@@ -190,7 +193,7 @@ fn erase_selector(bytes: &[u8]) -> Result<Next, Refused> {
             1,
             selector,
         )),
-        EraseSelector::Other => Err(Refused),
+        EraseSelector::Other => Err(Refused::Selector),
     }
 }
 
@@ -202,7 +205,7 @@ fn special_check(
     reply: &mut Reply,
 ) -> Result<Next, Refused> {
     let [_, _, high, low] = address.to_be_bytes();
-    require(bytes[0] == high ^ low)?;
+    require(bytes[0] == high ^ low, Refused::Checksum)?;
     let next = effects::erase_special(memories, address)?;
     reply.push(ACK);
     Ok(next)
@@ -239,7 +242,8 @@ fn crc_count(
     memories: &Memories,
     reply: &mut Reply,
 ) -> Result<Next, Refused> {
-    require(bytes[2] == bytes[0] ^ bytes[1] ^ 0xFF)?;
+    let check = bytes[0] ^ bytes[1] ^ 0xFF;
+    require(bytes[2] == check, Refused::Checksum)?;
     let sectors = count_sent_as_one_less(u16::from_be_bytes([bytes[0], bytes[1]]));
     let crc = effects::firmware_crc(memories, address, sectors)?;
     reply.push(ACK);

@@ -1,0 +1,64 @@
+//! Random scripts for `desk`: a host talks to a board of its own, aiming at every rule, and its
+//! lines are then run under watch to see what they reach.
+
+mod call;
+mod coverage;
+mod deck;
+mod dice;
+mod flaws;
+mod goals;
+mod host;
+mod looks;
+mod messages;
+mod own_board;
+mod pen;
+mod places;
+mod point;
+mod points;
+mod states;
+mod talk;
+mod watch;
+
+pub use coverage::Coverage;
+pub use pen::{Answer, Written};
+
+use deck::Deck;
+use host::Host;
+
+/// A script: its lines, each with what the host's own board answered.
+#[derive(Clone, Debug, PartialEq, Eq)]
+pub struct Script {
+    /// The lines.
+    pub lines: Vec<Written>,
+}
+
+impl Script {
+    /// The UART script of a seed, with so many lines.
+    pub fn of_uart(seed: u64, count: usize) -> Script {
+        let mut host = Host::seeded(seed);
+        let mut deck = Deck::for_uart(&mut host);
+        while host.count() < count {
+            deck.deal(&mut host);
+        }
+        Script {
+            lines: host.into_lines(count),
+        }
+    }
+
+    /// The lines as `desk` reads them, each ended by LF.
+    pub fn text(&self) -> Vec<u8> {
+        let mut text = Vec::new();
+        for line in &self.lines {
+            text.extend_from_slice(&line.text);
+            text.push(b'\n');
+        }
+        text
+    }
+
+    /// What the script reaches.
+    pub fn coverage(&self) -> Coverage {
+        let mut coverage = Coverage::of_uart();
+        watch::watch(&self.text(), &mut coverage);
+        coverage
+    }
+}

@@ -1,0 +1,67 @@
+//! A point that a script is to reach, and what it is looked for in.
+
+use super::call::Call;
+use crate::session::Session;
+
+/// Something that was seen while a script ran.
+#[derive(Debug)]
+pub enum Sight<'s> {
+    /// A line, and the session that it came upon.
+    Line(&'s [u8], &'s Session),
+    /// A power on, and the session that it ended.
+    PowerOn(&'s Session),
+    /// A call.
+    Call(&'s Call<'s>),
+}
+
+/// A point with its name.
+pub struct Point {
+    /// What is reached, in a few words.
+    pub name: String,
+    test: Box<dyn Fn(&Sight) -> bool>,
+}
+
+impl Point {
+    /// A point that some line reaches.
+    pub fn of_line(
+        name: impl Into<String>,
+        test: impl Fn(&[u8], &Session) -> bool + 'static,
+    ) -> Point {
+        Point::of(name, move |sight| match sight {
+            Sight::Line(text, session) => test(text, session),
+            _ => false,
+        })
+    }
+
+    /// A point that some power on reaches.
+    pub fn of_power_on(
+        name: impl Into<String>,
+        test: impl Fn(&Session) -> bool + 'static,
+    ) -> Point {
+        Point::of(name, move |sight| match sight {
+            Sight::PowerOn(session) => test(session),
+            _ => false,
+        })
+    }
+
+    /// A point that some call reaches.
+    pub fn of_call(name: impl Into<String>, test: impl Fn(&Call) -> bool + 'static) -> Point {
+        Point::of(name, move |sight| match sight {
+            Sight::Call(call) => test(call),
+            _ => false,
+        })
+    }
+
+    /// Tells whether what was seen reaches the point.
+    pub fn is_reached_by(&self, sight: &Sight) -> bool {
+        (self.test)(sight)
+    }
+
+    /// A point that whatever passes the test reaches.
+    fn of(name: impl Into<String>, test: impl Fn(&Sight) -> bool + 'static) -> Point {
+        Point {
+            name: name.into(),
+            test: Box::new(test),
+        }
+    }
+}

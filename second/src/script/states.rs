@@ -1,0 +1,102 @@
+//! How a host brings the board into the state that it wants.
+
+use super::host::Host;
+use super::places::{some_sector, touched, Range};
+use crate::board::{FLASH, SECTORS};
+use crate::commands::{ACCESS_PROTECT, ACCESS_UNPROTECT, UNPROTECT};
+use crate::effects::{protection_is_on, sector_is_protected};
+use crate::session::{Step, UartStep};
+use crate::uart::CONNECT_BYTE;
+
+/// The most sectors that a host protects without a goal.
+const FEW_SECTORS: usize = 5;
+
+impl Host {
+    /// Connects the board, unless it is connected and idle.
+    pub fn connect(&mut self) {
+        match self.board.step() {
+            Step::Uart(UartStep::Idle) if self.board.session.taken == 0 => return,
+            Step::None => {}
+            _ => self.power_on(),
+        }
+        self.say(&[CONNECT_BYTE]);
+    }
+
+    /// Tells whether protection is on.
+    pub fn is_locked(&self) -> bool {
+        protection_is_on(&self.board.store.usd)
+    }
+
+    /// Has the board connected, with protection off.
+    pub fn ready(&mut self) {
+        self.connect();
+        if self.is_locked() {
+            self.plain(ACCESS_UNPROTECT);
+            self.connect();
+        }
+    }
+
+    /// Has the board connected, with protection on.
+    pub fn ready_locked(&mut self) {
+        self.connect();
+        if !self.is_locked() {
+            self.plain(ACCESS_PROTECT);
+            self.connect();
+        }
+    }
+
+    /// The sectors that are write-protected, or those that are not.
+    pub fn sectors(&self, protected: bool) -> Vec<usize> {
+        let usd = &self.board.store.usd;
+        let fits = |sector: &usize| sector_is_protected(usd, *sector) == protected;
+        (0..SECTORS).filter(fits).collect()
+    }
+
+    /// Has exactly these sectors write-protected, and the board ready.
+    pub fn ready_protecting(&mut self, sectors: &[u8]) {
+        self.ready();
+        self.protect(sectors);
+        self.ready();
+    }
+
+    /// Has no sector write-protected, and the board ready.
+    pub fn ready_released(&mut self) {
+        self.ready();
+        if !self.sectors(true).is_empty() {
+            self.plain(UNPROTECT);
+            self.ready();
+        }
+    }
+
+    /// Some sector that is write-protected, with the board ready.
+    pub fn protected_sector(&mut self) -> usize {
+        if self.sectors(true).is_empty() {
+            let count = self.dice.between(1, FEW_SECTORS);
+            let sectors: Vec<u8> = (0..count)
+                .map(|_| some_sector(&mut self.dice) as u8)
+                .collect();
+            self.ready_protecting(&sectors);
+        }
+        self.ready();
+        self.dice.one_of(&self.sectors(true))
+    }
+
+    /// Some sector that is not write-protected, with the board ready.
+    pub fn free_sector(&mut self) -> usize {
+        if self.sectors(false).is_empty() {
+            self.ready_released();
+        }
+        self.ready();
+        self.dice.one_of(&self.sectors(false))
+    }
+
+    /// Has the board ready, and no write-protected sector where a range touches flash.
+    pub fn ready_to_write(&mut self, range: Range) {
+        let protected = self.sectors(true);
+        let in_flash = FLASH.offset_of(range.address, range.x).is_some();
+        if in_flash && touched(range).any(|sector| protected.contains(&sector)) {
+            self.ready_released();
+        }
+        self.ready();
+    }
+}
