@@ -2,7 +2,7 @@ ghost use mathlib.Core.Path.{_≡_};
 ghost use Prim.Native.Nat.{_≤_};
 ghost use lib.ListN.{length};
 ghost use Rattle.words.specs.Bytes.{twoBytes};
-ghost use Rattle.board.specs.Board.{sectors, address};
+ghost use Rattle.board.specs.Board.{sectors};
 ghost use Rattle.board.specs.Quantities.{largestCount};
 ghost use Rattle.memories.specs.Effects.{stagedBytes};
 ghost use Rattle.uart.specs.Conversation.{complemented, checks, checksCounted, checksNumbered};

@@ -3,7 +3,7 @@ ghost use mathlib.Core.List.{[]};
 ghost use Prim.Native.Nat.{_+_, _≤_, _<_};
 ghost use lib.Dec.{T, ltb};
 ghost use lib.ListN.{length};
-ghost use Rattle.board.specs.Board.{extentOf, sectors, address};
+ghost use Rattle.board.specs.Board.{extentOf, sectors};
 ghost use Rattle.board.specs.Quantities.{largestCount, countOf, lessOne};
 ghost use Rattle.board.specs.declared.Region.the-variants.{Usd};
 ghost use Rattle.memories.specs.Effects.{stagedBytes};
