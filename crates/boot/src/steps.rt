@@ -1,8 +1,6 @@
 ghost use mathlib.Core.Path.{_≡_};
 ghost use mathlib.Core.List.{[], _∷_};
 ghost use Prim.Native.Nat.{_<_, _≤_};
-ghost use lib.Dec.{T};
-ghost use lib.ListN.{length};
 ghost use Rattle.memories.specs.Effects.{stagedBytes};
 ghost use Rattle.boot.specs.Session.{idleExpects, entered, idle, running, stepSound, sound, gathered, after};
 ghost use Rattle.boot.specs.Promise.{PoweredOn};

@@ -1,7 +1,6 @@
 -- What is decided is said and carried out with the memories as they were lent, and can be.
 use borrow.Author.Needs.{needs}
 use native.Mathlib.Omega.{arith}
-use native.Mathlib.Omega.{arith}
 use mathlib.Core.Path.{subst}
 use Prim.Native.Nat.{ℕ, _<_}
 use Rattle.board.specs.declared.Region.the-variants.{Usd}
