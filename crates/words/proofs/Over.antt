@@ -1,5 +1,5 @@
 -- Laws of bytes laid over a memory: its length, and what stands at each place afterwards.
-use mathlib.Core.Path.{_≡_, refl, ap, sym}
+use mathlib.Core.Path.{_≡_, refl, ap, sym, _∙_}
 use mathlib.Core.Bool.{Bool, true, false, _&&_}
 use mathlib.Core.List.{List, [], _∷_, _++_}
 use Prim.Native.Nat.{ℕ, zero, suc, _+_, _-_, _≤_, _<_}
@@ -131,3 +131,16 @@ pub put-one : (m : List ℕ) (at b : ℕ) → put m at (b ∷ []) ≡ set m at b
 put-one [] at b = refl
 put-one (x ∷ m) (suc at) b = ap (λ (r : List ℕ). x ∷ r) (put-one m at b)
 put-one (x ∷ m) zero b = ap (λ (r : List ℕ). b ∷ r) (over-none newer m 0)
+
+-- bytes laid behind bytes that were laid
+pub over-then : (f : ℕ → ℕ → ℕ) (m : List ℕ) (at : ℕ) (a b : List ℕ)
+    → over f (over f m at a) (at + length a) b ≡ over f m at (a ++ b)
+over-then f [] at a b = refl
+over-then f (x ∷ m) (suc at) a b = rw suc-add (ap (λ (r : List ℕ). x ∷ r) (over-then f m at a b))
+over-then f (x ∷ m) zero [] b = refl
+over-then f (x ∷ m) zero (c ∷ a) b =
+    rw zero-add (ap (λ (r : List ℕ). f x c ∷ r) (ap (λ (k : ℕ). over f (over f m zero a) k b) (sym (zero-add (length a))) ∙ over-then f m zero a b))
+
+-- bytes put behind bytes that were put
+pub put-then : (m : List ℕ) (at end : ℕ) (a b : List ℕ) → end ≡ at + length a → put (put m at a) end b ≡ put m at (a ++ b)
+put-then m at end a b e = rw e (over-then newer m at a b)

@@ -1,0 +1,25 @@
+-- By the length: there is a letter and what follows it, or the line is none.
+use borrow.Author.Needs.{needs}
+use native.Mathlib.Omega.{arith}
+use mathlib.Core.Path.{_∙_, ap}
+use mathlib.Core.List.{List}
+use Prim.Native.Nat.{ℕ, _-_}
+use lib.ListN.{length, getD, drop, length-drop}
+use lib.Seq.{take-all}
+use Rattle.lines.specs.Lines.{kindBy}
+use Rattle.lines.proofs.Lines.{kind-empty, kind-within, kind-beyond}
+use Rattle.lines.proofs.line.kind.Statement.{statement}
+use Rattle.lines.proofs.line.kind.Tie as tie
+
+pub kind-spec : {M : Type 1} → statement M
+kind-spec =
+    tie.close
+    (tie.spec
+    (λ c. kind-empty (c .before .before .args .line .now) (c .if1 .taken))
+    (λ c. search needs)
+    (λ c. search needs)
+    (λ c. search needs)
+    (λ c. search needs)
+    (λ c κs. search needs)
+    (λ c. (c .kind-by .ensures) ∙ ap (λ (l : List ℕ). kindBy (getD (c .before .before .before .before .before .before .args .line .now) 0 0) l) (take-all (length (c .before .before .before .before .before .before .args .line .now) - 1) (drop 1 (c .before .before .before .before .before .before .args .line .now)) (simp length-drop (omega arith))) ∙ kind-within (c .before .before .before .before .before .before .args .line .now) (omega arith) (c .before .before .before .if2 .taken))
+    (λ c. kind-beyond (c .before .before .before .args .line .now) (c .if2 .left)))

@@ -1,0 +1,35 @@
+-- Characters that are digits, and bytes and numbers written in them. Assumes nothing.
+use Prim.Native.Nat.{ℕ, zero, suc, _+_, _*_, _-_, _/_, _%_}
+use mathlib.Core.Bool.{Bool, _&&_, _||_}
+use mathlib.Core.List.{List, [], _∷_, _++_}
+use lib.Dec.{leb, ltb}
+use Rattle.words.specs.Choice.{if_then_else_}
+
+-- a capital hex digit: 0 to 9, A to F
+abbrev pub isDigit : ℕ → Bool
+isDigit c = (leb 48 c && leb c 57) || (leb 65 c && leb c 70)
+
+-- the value of a capital hex digit
+abbrev pub valueOf : ℕ → ℕ
+valueOf c = if leb c 57 then c - 48 else c - 55
+
+-- the digit of a value below 16
+abbrev pub digitOf : ℕ → ℕ
+digitOf v = if ltb v 10 then 48 + v else 55 + v
+
+-- the byte that two hex digits write
+abbrev pub byteIn : ℕ → ℕ → ℕ
+byteIn high low = valueOf high * 16 + valueOf low
+
+-- the two hex digits of a byte
+abbrev pub digitsOf : ℕ → List ℕ
+digitsOf b = digitOf (b / 16) ∷ digitOf (b % 16) ∷ []
+
+-- a number's last decimal digits, at most f of them and no more than it has
+abbrev pub decimalUpTo : ℕ → ℕ → List ℕ
+decimalUpTo zero n = []
+decimalUpTo (suc f) n = if ltb n 10 then digitOf n ∷ [] else decimalUpTo f (n / 10) ++ digitOf (n % 10) ∷ []
+
+-- a number in decimal
+abbrev pub decimal : ℕ → List ℕ
+decimal n = decimalUpTo (suc n) n
