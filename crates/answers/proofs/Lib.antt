@@ -1,0 +1,4 @@
+pub mod Telling
+pub mod Hearing
+pub mod Whole
+pub mod Example

@@ -1,0 +1,131 @@
+-- What a call left, as it is told: its reply, and the state after it.
+use mathlib.Core.Path.{_≡_, refl, sym, ap, _∙_}
+use mathlib.Core.List.{List, [], _∷_, _++_, map}
+use Prim.Native.Nat.{ℕ, _+_, _*_, _≤_, _<_}
+use native.Mathlib.Omega.{arith}
+use lib.ListN.{length, getD, set, take, drop, length-append, length-drop}
+use lib.Seq.{take-append-seam}
+use Rattle.words.specs.Over.{put, newer}
+use Rattle.words.proofs.Over.{over-none, put-one, put-then}
+use Rattle.memories.specs.Effects.{effect}
+use Rattle.command.specs.Says.{says}
+use Rattle.boot.specs.Session.{after}
+use Rattle.boot.specs.Calls.{State, powered, Byte, causeFor, decide, sent, perform, call}
+use Rattle.boot.specs.Promise.{Given, Left, givenByte, stateOf, outcome, Took}
+use Rattle.boot.specs.declared.Session.{Session}
+use Rattle.lines.specs.Digits.{byteIn, decimal}
+use Rattle.lines.specs.Lines.{lineFeed, space, fields}
+use Rattle.answers.specs.Told.{Told, quiet, _then_}
+use Rattle.lines.specs.Prints.{spelled}
+use Rattle.answers.specs.Answers.{answered, notUnderstood, deskRoom, tell, tells, callsOf, obeyed, notice}
+use Rattle.answers.specs.Promise.{Tells}
+use Rattle.lines.specs.declared.Kind.the-variants.{PowerOn}
+use Rattle.lines.proofs.Printing.{length-spelled}
+use Rattle.lines.proofs.Lines.{field-first}
+
+module _ (g : Given) (l : Left) (t : Took g l) where
+  -- a reply is no longer than the room lent for it
+  pub took-fits : length (l .buffer) ≡ length (g .buffer) → l .result .length ≤ length (g .buffer)
+  took-fits e =
+      let r = outcome g .reply in
+      let n = t .count in
+      let k = sym (ap length (t .buffer)) ∙ e in
+      let a = length-append r (drop (length r) (g .buffer)) in
+      let d = length-drop (length r) (g .buffer) in
+      omega arith
+
+  -- it stands at the front of the room
+  pub took-reply : take (l .result .length) (l .buffer) ≡ outcome g .reply
+  took-reply = rw (t .count, t .buffer) (take-append-seam (outcome g .reply) (drop (length (outcome g .reply)) (g .buffer)))
+
+-- a byte was taken, and its reply printed
+module _ (s : Session) (b : ℕ) (flash sram usd lent : List ℕ) (room : length lent ≡ deskRoom) where
+  pub byte-told : (l : Left) → Took (givenByte s b flash sram usd lent) l
+      → (at end : ℕ) (out out' : List ℕ) → end ≡ at + l .result .length * 3
+      → out' ≡ put out at (spelled (take (l .result .length) (l .buffer)))
+      → Tells (tell (Byte deskRoom b) (stateOf s flash sram usd)) at out end out' (stateOf (l .result .session) (l .flash) (l .sram) (l .usd))
+  unfolding outcome tell
+  byte-told l t at end out out' e w = record {
+    end = e ∙ ap (λ (k : ℕ). at + k) (ap (λ (k : ℕ). k * 3) (t .count) ∙ sym (length-spelled (call (Byte (length lent) b) (stateOf s flash sram usd) .reply)) ∙ ap (λ (n : ℕ). length (spelled (call (Byte n b) (stateOf s flash sram usd) .reply))) room);
+    text = w ∙ ap (λ (r : List ℕ). put out at (spelled r)) (took-reply (givenByte s b flash sram usd lent) l t ∙ ap (λ (n : ℕ). call (Byte n b) (stateOf s flash sram usd) .reply) room);
+    state = left-state ∙ ap (λ (n : ℕ). call (Byte n b) (stateOf s flash sram usd) .state) room;
+  }
+    where
+      left-state : stateOf (l .result .session) (l .flash) (l .sram) (l .usd) ≡ call (Byte (length lent) b) (stateOf s flash sram usd) .state
+      left-state = λ i. record {
+        session = t .session i;
+        memories = record { flash = t .flash i; sram = t .sram i; usd = t .usd i };
+      }
+
+-- what is left to tell from a place in a text on ends as the whole does
+pub record Continues {A : Type 0} (rest : Told A) (from : ℕ) (out : List ℕ) (whole : Told A) (at : ℕ) (before : List ℕ) : Type 0 where
+  pub end : from + length (rest .text) ≡ at + length (whole .text)
+  pub text : put out from (rest .text) ≡ put before at (whole .text)
+  pub state : rest .state ≡ whole .state
+
+-- before anything is told, the whole is left
+pub all-left : {A : Type 0} (t : Told A) (at : ℕ) (out : List ℕ) → Continues t at out t at out
+all-left t at out = record { end = refl; text = refl; state = refl }
+
+-- one thing is told, and what was to be told after it is left
+pub one-told : {A B : Type 0} (t : Told A) (f : A → Told B) {from to at : ℕ} {out out' before : List ℕ} {a : A} {whole : Told B}
+    → Continues (t then f) from out whole at before → Tells t from out to out' a → Continues (f a) to out' whole at before
+one-told {B = B} t f {from = from} {to = to} {out = out} {out' = out'} {a = a} k h = record {
+  end = sums ∙ k .end;
+  text = ap (λ (x : Told B). put out' to (x .text)) (ap f (h .state)) ∙ ap (λ (o : List ℕ). put o to (f (t .state) .text)) (h .text) ∙ put-then out from to (t .text) (f (t .state) .text) (h .end) ∙ k .text;
+  state = ap (λ (x : Told B). x .state) (ap f (h .state)) ∙ k .state;
+}
+  where
+    sums : to + length (f a .text) ≡ from + length (t .text ++ f (t .state) .text)
+    sums =
+        let e = ap (λ (x : Told B). length (x .text)) (ap f (h .state)) in
+        let l = length-append (t .text) (f (t .state) .text) in
+        let g = h .end in
+        omega arith
+
+-- nothing is left, and the whole is told
+pub none-left : {A : Type 0} (a : A) {from at : ℕ} {out before : List ℕ} {whole : Told A}
+    → Continues (quiet a) from out whole at before → Tells whole at before from out a
+none-left a {from = from} {out = out} k = record {
+  end = omega (arith, k .end);
+  text = sym (over-none newer out from) ∙ k .text;
+  state = k .state;
+}
+
+-- the calls of fields from a place on: that of the first, and then those of the others
+pub tells-fields : (s : List ℕ) (i : ℕ) (p : State) → i + 2 < length s
+    → tells (map (Byte deskRoom) (fields (drop i s))) p
+    ≡ (tell (Byte deskRoom (byteIn (getD s (i + 1) 0) (getD s (i + 2) 0))) p then tells (map (Byte deskRoom) (fields (drop (i + 3) s))))
+unfolding tells
+tells-fields s i p h = rw (field-first s i h) refl
+
+-- ---- answers
+
+-- a character stored behind a text is put behind it
+put-behind : (m : List ℕ) (at end : ℕ) (t : List ℕ) (d : ℕ) → end ≡ at + length t → set (put m at t) end d ≡ put m at (t ++ d ∷ [])
+put-behind m at end t d e = sym (put-one (put m at t) end d) ∙ put-then m at end t (d ∷ []) e
+
+-- replies that stand between `>` and LF are an answer
+pub obeyed-told : (t : Told State) (at end : ℕ) (m out' : List ℕ) (p : State)
+    → Tells t (at + 1) (set m at answered) end out' p → Tells (obeyed t) at m (end + 1) (set out' end lineFeed) p
+obeyed-told t at end m out' p h = record {
+  end = let l = length-append (t .text) (lineFeed ∷ []) in let e = h .end in omega arith;
+  text = rw (h .text, ← put-one m at answered, put-then m at (at + 1) (answered ∷ []) (t .text) (omega arith))
+      (put-behind m at end (answered ∷ t .text) lineFeed (let e = h .end in omega arith));
+  state = h .state;
+}
+
+-- power on is answered by nothing but `>`, and leaves the memories
+pub power-told : (p : State) → obeyed (tells (callsOf PowerOn []) p) ≡ record { text = answered ∷ lineFeed ∷ []; state = powered (p .memories) }
+unfolding tells tell call causeFor decide perform sent after effect says
+power-told p = refl
+
+-- a number that stands between `? ` and LF is a notice
+pub noticed : (n at end : ℕ) (m out' : List ℕ) → end ≡ at + 2 + length (decimal n) → out' ≡ put (put m at (notUnderstood ∷ space ∷ [])) (at + 2) (decimal n)
+    → set out' end lineFeed ≡ put m at (notice n)
+noticed n at end m out' e w =
+    rw (w, put-then m at (at + 2) (notUnderstood ∷ space ∷ []) (decimal n) (omega arith))
+    (put-behind m at end (notUnderstood ∷ space ∷ decimal n) lineFeed (omega arith))
+
+pub length-notice : (n : ℕ) → length (notice n) ≡ length (decimal n) + 3
+length-notice n = let l = length-append (decimal n) (lineFeed ∷ []) in omega arith

@@ -1,0 +1,16 @@
+-- By whether there is room.
+use borrow.Author.Needs.{needs}
+use native.Mathlib.Omega.{arith}
+use Rattle.answers.proofs.Hearing.{kept-stored, kept-full}
+use Rattle.answers.proofs.hear.keep.Statement.{statement}
+use Rattle.answers.proofs.hear.keep.Tie as tie
+
+pub keep-spec : {M : Type 1} → statement M
+keep-spec =
+    tie.close
+    (tie.spec
+    (λ c. search needs)
+    (λ c. search needs)
+    (λ c. search needs)
+    (λ c. (kept-stored (c .before .args .line .now) (c .before .args .kept) (c .before .args .character) (c .before .pre .0) (c .if1 .taken), omega arith, omega arith))
+    (λ c. (kept-full (c .before .args .line .now) (c .before .args .kept) (c .before .args .character) (c .before .pre .0) (c .before .pre .1) (c .if1 .left), omega arith, omega arith)))

@@ -1,0 +1,160 @@
+ghost use mathlib.Core.Path.{_≡_};
+ghost use mathlib.Core.List.{[], _∷_, map};
+ghost use Prim.Native.Nat.{_+_, _*_, _≤_, _<_};
+ghost use lib.Dec.{T};
+ghost use lib.ListN.{length, drop};
+ghost use Rattle.words.specs.Over.{put};
+ghost use Rattle.boot.specs.Session.{fresh};
+ghost use Rattle.boot.specs.Calls.{Byte};
+ghost use Rattle.boot.specs.Promise.{stateOf};
+ghost use Rattle.lines.specs.Lines.{lineFeed, fieldCharacters, areFields, fields};
+ghost use Rattle.answers.specs.Answers.{answered, deskRoom, tell, tells, callsOf, obeyed, notice, answer};
+ghost use Rattle.answers.specs.Promise.{Tells, noticeRoom, answerRoom};
+use crate::Answered;
+use boot::Session;
+use lines::Kind;
+use lines::digits;
+use lines::line;
+use lines::line::FIELD;
+use lines::line::SPACE;
+use lines::print;
+
+// The room for a reply: what either carrier needs.
+const ROOM: usize = 363;
+
+// The character that ends a line, and those that begin an answer.
+pub const LINE_FEED: u8 = b'\n';
+
+const ANSWERED: u8 = b'>';
+
+const NOT_UNDERSTOOD: u8 = b'?';
+
+// Makes the call of one byte, and prints its reply.
+fn tell_byte(
+    session: Session,
+    byte: u8,
+    flash: &mut [u8],
+    sram: &mut [u8],
+    usd: &mut [u8],
+    out: &mut [u8],
+    at: usize,
+) -> Answered
+    requires { ⌜ at + deskRoom * fieldCharacters ≤ length (now out) ⌝ }
+    ensures { λ r. ⌜ Tells (tell (Byte deskRoom byte) (stateOf session (now (flash .entry)) (now (sram .entry)) (now (usd .entry)))) at (now (out .entry)) (r .end) (now (out .exit)) (stateOf (r .session) (now (flash .exit)) (now (sram .exit)) (now (usd .exit))) ⌝ }
+    ensures { λ r. ⌜ r .end ≤ at + deskRoom * fieldCharacters ⌝ }
+{
+    let mut buffer = [0u8; ROOM];
+    let taken = session.take_byte(byte, flash, sram, usd, &mut buffer);
+    let next = taken.session;
+    let n = taken.length;
+    let end = print::bytes(&buffer, n, out, at);
+    Answered {
+        session: next,
+        end: end,
+    }
+}
+
+// Makes the calls of hex bytes one after another, and prints their replies.
+fn tell_bytes(
+    session: Session,
+    rest: &[u8],
+    flash: &mut [u8],
+    sram: &mut [u8],
+    usd: &mut [u8],
+    out: &mut [u8],
+    at: usize,
+) -> Answered
+    requires { ⌜ T (areFields (now rest)) × (at + deskRoom * length (now rest) ≤ length (now out)) ⌝ }
+    ensures { λ r. ⌜ Tells (tells (map (Byte deskRoom) (fields (now (rest .entry)))) (stateOf session (now (flash .entry)) (now (sram .entry)) (now (usd .entry)))) at (now (out .entry)) (r .end) (now (out .exit)) (stateOf (r .session) (now (flash .exit)) (now (sram .exit)) (now (usd .exit))) ⌝ }
+    ensures { λ r. ⌜ r .end ≤ at + deskRoom * length (now (rest .entry)) ⌝ }
+{
+    let n = rest.len();
+    let mut told = Answered {
+        session: session,
+        end: at,
+    };
+    let mut i = 0;
+    while i < n {
+        let byte = digits::byte_in(rest[i + 1], rest[i + 2]);
+        let here = told.session;
+        told = tell_byte(here, byte, flash, sram, usd, out, told.end);
+        i += FIELD;
+    }
+    told
+}
+
+// Answers a line of bytes by their replies.
+fn obey_bytes(
+    session: Session,
+    line: &[u8],
+    flash: &mut [u8],
+    sram: &mut [u8],
+    usd: &mut [u8],
+    out: &mut [u8],
+    at: usize,
+) -> Answered
+    requires { ⌜ (0 < length (now line)) × T (areFields (drop 1 (now line))) × (at + answerRoom (length (now line)) ≤ length (now out)) ⌝ }
+    ensures { λ r. ⌜ Tells (obeyed (tells (callsOf Kind.Bytes (now (line .entry))) (stateOf session (now (flash .entry)) (now (sram .entry)) (now (usd .entry))))) at (now (out .entry)) (r .end) (now (out .exit)) (stateOf (r .session) (now (flash .exit)) (now (sram .exit)) (now (usd .exit))) ⌝ }
+    ensures { λ r. ⌜ r .end ≤ at + answerRoom (length (now (line .entry))) ⌝ }
+{
+    out[at] = ANSWERED;
+    let told = tell_bytes(session, &line[1..], flash, sram, usd, out, at + 1);
+    let next = told.session;
+    let end = told.end;
+    out[end] = LINE_FEED;
+    Answered {
+        session: next,
+        end: end + 1,
+    }
+}
+
+// Answers a line that asks for power on.
+fn obey_power(out: &mut [u8], at: usize) -> Answered
+    requires { ⌜ at + 2 ≤ length (now out) ⌝ }
+    ensures { λ r. ⌜ (r .session ≡ fresh) × (r .end ≡ at + 2) × (now (out .exit) ≡ put (now (out .entry)) at (answered ∷ lineFeed ∷ [])) ⌝ }
+{
+    let text = [ANSWERED, LINE_FEED];
+    words::copy(out, at, &text, 0, 2);
+    Answered {
+        session: Session::power_on(),
+        end: at + 2,
+    }
+}
+
+// Answers another line by its number, and tells where the answer ends.
+fn disobey(number: u64, out: &mut [u8], at: usize) -> usize
+    requires { ⌜ at + noticeRoom ≤ length (now out) ⌝ }
+    ensures { λ r. ⌜ (r ≡ at + length (notice number)) × (r ≤ at + noticeRoom) × (now (out .exit) ≡ put (now (out .entry)) at (notice number)) ⌝ }
+{
+    let text = [NOT_UNDERSTOOD, SPACE];
+    words::copy(out, at, &text, 0, 2);
+    let end = print::number(number, out, at + 2);
+    out[end] = LINE_FEED;
+    end + 1
+}
+
+// Answers a line of a number.
+pub fn answer(
+    session: Session,
+    number: u64,
+    line: &[u8],
+    flash: &mut [u8],
+    sram: &mut [u8],
+    usd: &mut [u8],
+    out: &mut [u8],
+    at: usize,
+) -> Answered
+    requires { ⌜ at + answerRoom (length (now line)) ≤ length (now out) ⌝ }
+    ensures { λ r. ⌜ Tells (answer number (now (line .entry)) (stateOf session (now (flash .entry)) (now (sram .entry)) (now (usd .entry)))) at (now (out .entry)) (r .end) (now (out .exit)) (stateOf (r .session) (now (flash .exit)) (now (sram .exit)) (now (usd .exit))) ⌝ }
+    ensures { λ r. ⌜ r .end ≤ at + answerRoom (length (now (line .entry))) ⌝ }
+{
+    let kind = line::kind(line);
+    match kind {
+        Kind::Bytes => obey_bytes(session, line, flash, sram, usd, out, at),
+        Kind::PowerOn => obey_power(out, at),
+        Kind::Other => Answered {
+            session: session,
+            end: disobey(number, out, at),
+        },
+    }
+}

@@ -1,0 +1,111 @@
+ghost use mathlib.Core.Path.{_≡_};
+ghost use Prim.Native.Nat.{_+_, _*_, _^_, _≤_, _<_};
+ghost use lib.ListN.{length, take};
+ghost use Rattle.answers.specs.Answers.{deskRoom};
+ghost use Rattle.answers.specs.Desk.{keptCharacters, keep, lineEnds, hears, inputEnds};
+ghost use Rattle.answers.specs.Promise.{Tells, answerRoom, deskOf};
+use crate::Desk;
+use crate::answer;
+use crate::answer::LINE_FEED;
+use lines::line::MOST_CHARACTERS;
+
+// What is kept of a line: one character more than it may have tells that it is too long.
+pub const KEPT_CHARACTERS: usize = MOST_CHARACTERS + 1;
+
+// Keeps a character of the line that has begun, and tells how many are kept.
+fn keep(line: &mut [u8], kept: usize, character: u8) -> usize
+    requires { ⌜ (length (now line) ≡ keptCharacters) × (kept ≤ keptCharacters) ⌝ }
+    ensures { λ r. ⌜ (take r (now (line .exit)) ≡ keep (take kept (now (line .entry))) character) × (r ≤ keptCharacters) × (r ≤ kept + 1) ⌝ }
+{
+    if kept < KEPT_CHARACTERS {
+        line[kept] = character;
+        kept + 1
+    } else {
+        kept
+    }
+}
+
+// Answers the line that has begun.
+fn end_line(
+    desk: Desk,
+    line: &[u8],
+    flash: &mut [u8],
+    sram: &mut [u8],
+    usd: &mut [u8],
+    out: &mut [u8],
+) -> Desk
+    requires { ⌜ (desk .kept ≤ length (now line)) × (desk .lines + 1 < 2 ^ 64) × (desk .end + answerRoom (desk .kept) ≤ length (now out)) ⌝ }
+    ensures { λ r. ⌜ Tells (lineEnds (deskOf desk (now (line .entry)) (now (flash .entry)) (now (sram .entry)) (now (usd .entry)))) (desk .end) (now (out .entry)) (r .end) (now (out .exit)) (deskOf r (now (line .entry)) (now (flash .exit)) (now (sram .exit)) (now (usd .exit))) ⌝ }
+    ensures { λ r. ⌜ (r .end ≤ desk .end + answerRoom (desk .kept)) × (r .kept ≡ 0) × (r .lines ≡ desk .lines + 1) ⌝ }
+{
+    let session = desk.session;
+    let number = desk.lines + 1;
+    let kept = desk.kept;
+    let told = answer::answer(
+        session,
+        number,
+        &line[..kept],
+        flash,
+        sram,
+        usd,
+        out,
+        desk.end,
+    );
+    let next = told.session;
+    Desk {
+        session: next,
+        lines: number,
+        kept: 0,
+        end: told.end,
+    }
+}
+
+// Takes characters in, and answers each line as soon as its LF comes.
+pub fn hear(
+    desk: Desk,
+    text: &[u8],
+    line: &mut [u8],
+    flash: &mut [u8],
+    sram: &mut [u8],
+    usd: &mut [u8],
+    out: &mut [u8],
+) -> Desk
+    requires { ⌜ (length (now line) ≡ keptCharacters) × (desk .kept ≤ keptCharacters) × (desk .lines + length (now text) < 2 ^ 64) × (desk .end + deskRoom * (desk .kept + length (now text)) ≤ length (now out)) ⌝ }
+    ensures { λ r. ⌜ Tells (hears (now (text .entry)) (deskOf desk (now (line .entry)) (now (flash .entry)) (now (sram .entry)) (now (usd .entry)))) (desk .end) (now (out .entry)) (r .end) (now (out .exit)) (deskOf r (now (line .exit)) (now (flash .exit)) (now (sram .exit)) (now (usd .exit))) ⌝ }
+    ensures { λ r. ⌜ (r .end ≤ length (now (out .entry))) × (r .kept ≤ keptCharacters) × (r .lines ≤ desk .lines + length (now (text .entry))) ⌝ }
+{
+    let n = text.len();
+    let mut here = desk;
+    let mut i = 0;
+    while i < n {
+        let character = text[i];
+        i += 1;
+        if character == LINE_FEED {
+            here = end_line(here, line, flash, sram, usd, out);
+            continue;
+        }
+        let kept = here.kept;
+        here.kept = keep(line, kept, character);
+    }
+    here
+}
+
+// Answers at the end of the input a line that has begun.
+pub fn finish(
+    desk: Desk,
+    line: &[u8],
+    flash: &mut [u8],
+    sram: &mut [u8],
+    usd: &mut [u8],
+    out: &mut [u8],
+) -> Desk
+    requires { ⌜ (desk .kept ≤ length (now line)) × (desk .lines + 1 < 2 ^ 64) × (desk .end + answerRoom (desk .kept) ≤ length (now out)) ⌝ }
+    ensures { λ r. ⌜ Tells (inputEnds (deskOf desk (now (line .entry)) (now (flash .entry)) (now (sram .entry)) (now (usd .entry)))) (desk .end) (now (out .entry)) (r .end) (now (out .exit)) (deskOf r (now (line .entry)) (now (flash .exit)) (now (sram .exit)) (now (usd .exit))) ⌝ }
+    ensures { λ r. ⌜ r .end ≤ length (now (out .entry)) ⌝ }
+{
+    if 0 < desk.kept {
+        end_line(desk, line, flash, sram, usd, out)
+    } else {
+        desk
+    }
+}
