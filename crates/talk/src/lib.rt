@@ -1,0 +1,147 @@
+// Reads a host's lines and writes the answers, over file descriptors: what is read and written is not proved, what is done with it is.
+ghost use mathlib.Core.Path.{_≡_};
+ghost use Prim.Native.Nat.{_+_, _^_, _≤_, _<_};
+ghost use lib.ListN.{length};
+ghost use Rattle.memories.specs.Memories.{freshMemories};
+ghost use Rattle.answers.specs.Desk.{keptCharacters};
+ghost use Rattle.talk.specs.Turns.{readCharacters, outCharacters, Ready};
+use answers::Desk;
+use answers::hear::KEPT_CHARACTERS;
+use answers::hear::finish;
+use answers::hear::hear;
+use board::Board;
+use boot::Session;
+use memories::ERASED;
+
+// How many characters are read at most at once.
+const READ_CHARACTERS: usize = 4096;
+
+// The room for what one read makes it print, whatever it brings.
+const OUT_CHARACTERS: usize = 363 * (KEPT_CHARACTERS + READ_CHARACTERS);
+
+// How many reads are made at most, a number that no run uses up.
+const TURNS: u64 = 0x0008_0000_0000_0000;
+
+// The desk after a read, and whether there was something to read and it could be answered.
+pub struct Turned {
+    pub desk: Desk,
+    pub going: bool,
+}
+
+// A flash that is erased.
+fn fresh_flash() -> [u8; Board::FLASH_BYTES]
+    ensures { λ r. ⌜ r ≡ freshMemories .flash ⌝ }
+{
+    [ERASED; Board::FLASH_BYTES]
+}
+
+// An SRAM of zeros.
+fn fresh_sram() -> [u8; Board::SRAM_BYTES]
+    ensures { λ r. ⌜ r ≡ freshMemories .sram ⌝ }
+{
+    [0; Board::SRAM_BYTES]
+}
+
+// User system data with protection off and no sector write-protected.
+fn fresh_usd() -> [u8; Board::USD_BYTES]
+    ensures { λ r. ⌜ r ≡ freshMemories .usd ⌝ }
+{
+    let mut usd = [ERASED; Board::USD_BYTES];
+    usd[Board::PROTECTION] = Board::PROTECTION_OFF;
+    usd
+}
+
+// Room for the answers, of which only its length counts.
+fn room() -> [u8; OUT_CHARACTERS]
+    ensures { λ r. ⌜ outCharacters ≡ length r ⌝ }
+{
+    [0; OUT_CHARACTERS]
+}
+
+// Reads once, takes in what came, and writes once what is to be answered.
+fn turn(
+    desk: Desk,
+    from: i32,
+    to: i32,
+    line: &mut [u8],
+    flash: &mut [u8],
+    sram: &mut [u8],
+    usd: &mut [u8],
+    out: &mut [u8],
+) -> Turned
+    requires { ⌜ Ready desk (now line) (now out) × (desk .lines + readCharacters < 2 ^ 64) ⌝ }
+    ensures { λ r. ⌜ Ready (r .desk) (now (line .exit)) (now (out .exit)) × (r .desk .lines ≤ desk .lines + readCharacters) ⌝ }
+{
+    let mut input = [0u8; READ_CHARACTERS];
+    let got = libc::read(from, &mut input);
+    let n = io::count(got, &input);
+    if n == 0 {
+        return Turned {
+            desk: desk,
+            going: false,
+        };
+    }
+    let mut next = hear(desk, &input[..n], line, flash, sram, usd, out);
+    let end = next.end;
+    let going = io::write_all(to, &out[..end]);
+    next.end = 0;
+    Turned {
+        desk: next,
+        going: going,
+    }
+}
+
+// How many reads may still be made: none where there was nothing to read.
+fn turns_left(turns: u64, going: bool) -> u64
+    requires { ⌜ 0 < turns ⌝ }
+    ensures { λ r. ⌜ r < turns ⌝ }
+{
+    if going { turns - 1 } else { 0 }
+}
+
+// Reads until the input ends, and answers a last line that has no LF.
+fn sit(
+    from: i32,
+    to: i32,
+    line: &mut [u8],
+    flash: &mut [u8],
+    sram: &mut [u8],
+    usd: &mut [u8],
+    out: &mut [u8],
+)
+    requires { ⌜ (length (now line) ≡ keptCharacters) × (outCharacters ≤ length (now out)) ⌝ }
+{
+    let mut desk = Desk {
+        session: Session::power_on(),
+        lines: 0,
+        kept: 0,
+        end: 0,
+    };
+    let mut turns = TURNS;
+    while 0 < turns {
+        let turned = turn(desk, from, to, line, flash, sram, usd, out);
+        desk = turned.desk;
+        turns = turns_left(turns, turned.going);
+    }
+    let done = finish(desk, line, flash, sram, usd, out);
+    let end = done.end;
+    io::write_all(to, &out[..end]);
+}
+
+// The program desk: from the fresh board, just powered, it reads lines until they end and writes the answers.
+pub fn run(from: i32, to: i32) {
+    let mut flash = fresh_flash();
+    let mut sram = fresh_sram();
+    let mut usd = fresh_usd();
+    let mut line = [0u8; KEPT_CHARACTERS];
+    let mut out = room();
+    sit(
+        from,
+        to,
+        &mut line,
+        &mut flash,
+        &mut sram,
+        &mut usd,
+        &mut out,
+    );
+}
