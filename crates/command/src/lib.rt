@@ -1,9 +1,11 @@
+pub mod at_once;
 pub mod code;
 pub mod erase;
 pub mod jump;
 pub mod protect;
 pub mod protected;
 pub mod read;
+pub mod sent;
 pub mod sum;
 pub mod write;
 

@@ -1,7 +1,5 @@
 ghost use mathlib.Core.Path.{_≡_};
 ghost use lib.ListN.{length, getD, take};
-ghost use Rattle.words.specs.Bytes.{number};
-ghost use Rattle.board.specs.Board.{address};
 ghost use Rattle.board.specs.Quantities.{addressBytes};
 ghost use Rattle.board.specs.Regions.{known, sectorStart};
 ghost use Rattle.memories.specs.Effects.{stagedBytes};
@@ -19,24 +17,14 @@ use command::Decision;
 use command::Next;
 use command::Reply;
 use command::Why;
-
-// An address is sent in so many bytes.
-const ADDRESS_BYTES: usize = 4;
-
-// The address that the first four bytes write.
-fn address_in(bytes: &[u8]) -> Address
-    requires { ⌜ length (now bytes) ≡ stagedBytes ⌝ }
-    ensures { λ r. ⌜ r ≡ address (number (take addressBytes (now (bytes .entry)))) ⌝ }
-{
-    Address(words::number4(bytes[0], bytes[1], bytes[2], bytes[3]))
-}
+use command::sent;
 
 // What is decided on an address whose XOR, the fifth byte, is right.
 fn addressed(bytes: &[u8], decision: Decision) -> Decision
     requires { ⌜ length (now bytes) ≡ stagedBytes ⌝ }
     ensures { λ r. ⌜ r ≡ (if checks (take addressBytes (now (bytes .entry))) (getD (now (bytes .entry)) addressBytes 0) gives decision else nack BadChecksum) ⌝ }
 {
-    let right = bytes[ADDRESS_BYTES] == words::xor_from(0, bytes, ADDRESS_BYTES);
+    let right = bytes[sent::ADDRESS_BYTES] == words::xor_from(0, bytes, sent::ADDRESS_BYTES);
     command::accept_if(right, decision, Why::BadChecksum)
 }
 
@@ -59,7 +47,7 @@ pub fn region_address(bytes: &[u8], next: Step, expected: usize) -> Decision
     requires { ⌜ length (now bytes) ≡ stagedBytes ⌝ }
     ensures { λ r. ⌜ r ≡ addressed (keptIf known next expected) (now (bytes .entry)) ⌝ }
 {
-    let address = address_in(bytes);
+    let address = sent::address_in(bytes);
     addressed(bytes, kept(Board::known(address), next, expected, address))
 }
 
@@ -68,7 +56,7 @@ pub fn crc_address(bytes: &[u8], next: Step, expected: usize) -> Decision
     requires { ⌜ length (now bytes) ≡ stagedBytes ⌝ }
     ensures { λ r. ⌜ r ≡ addressed (keptIf sectorStart next expected) (now (bytes .entry)) ⌝ }
 {
-    let address = address_in(bytes);
+    let address = sent::address_in(bytes);
     addressed(
         bytes,
         kept(Board::sector_start(address), next, expected, address),
@@ -80,5 +68,5 @@ pub fn jump_address(bytes: &[u8]) -> Decision
     requires { ⌜ length (now bytes) ≡ stagedBytes ⌝ }
     ensures { λ r. ⌜ r ≡ addressed jumping (now (bytes .entry)) ⌝ }
 {
-    addressed(bytes, command::jump::jump(address_in(bytes)))
+    addressed(bytes, command::jump::jump(sent::address_in(bytes)))
 }

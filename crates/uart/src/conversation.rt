@@ -4,7 +4,7 @@ ghost use Prim.Native.Nat.{_+_, _≤_, _<_};
 ghost use lib.Dec.{T, ltb};
 ghost use lib.ListN.{length};
 ghost use Rattle.board.specs.Board.{extentOf, sectors};
-ghost use Rattle.board.specs.Quantities.{largestCount, countOf, lessOne};
+ghost use Rattle.board.specs.Quantities.{largestCount};
 ghost use Rattle.board.specs.declared.Region.the-variants.{Usd};
 ghost use Rattle.memories.specs.Effects.{stagedBytes};
 ghost use Rattle.command.specs.Decision.{if_gives_else_, answer};
@@ -17,23 +17,16 @@ use crate::address;
 use crate::checksum;
 use crate::obey;
 use board::Address;
-use board::LessOne;
 use command::Decision;
 use command::Next;
 use command::Reply;
 use command::Selector;
 use command::Why;
+use command::sent;
 use memories::Change;
 
 // The byte with which the checksum of Firmware CRC's count begins.
 const CRC_CHECK: u8 = 0xFF;
-
-// The count that a byte sends as one less.
-fn count_of(byte: u8) -> usize
-    ensures { λ r. ⌜ (r ≡ countOf (lessOne byte)) × (r ≤ largestCount) ⌝ }
-{
-    LessOne(byte as u16).count()
-}
 
 // A count has come, and a step for so many bytes and their checksum is entered.
 fn awaits(step: Step, bytes: &[u8]) -> Decision
@@ -42,7 +35,7 @@ fn awaits(step: Step, bytes: &[u8]) -> Decision
 {
     command::answer(
         Reply::Silence,
-        Next::Enter(step.number(), count_of(bytes[0]) + 1),
+        Next::Enter(step.number(), sent::count_of(bytes[0]) + 1),
     )
 }
 
@@ -84,7 +77,7 @@ fn read_ends(address: u32, bytes: &[u8]) -> Decision
 {
     command::accept_if(
         checksum::complemented(bytes),
-        command::read::read(Address(address), count_of(bytes[0])),
+        command::read::read(Address(address), sent::count_of(bytes[0])),
         Why::BadChecksum,
     )
 }
@@ -158,10 +151,7 @@ fn crc_ends(address: u32, bytes: &[u8]) -> Decision
 {
     command::accept_if(
         bytes[2] == words::xor_from(CRC_CHECK, bytes, 2),
-        command::sum::sum(
-            Address(address),
-            LessOne(words::number2(bytes[0], bytes[1])).count(),
-        ),
+        command::sum::sum(Address(address), sent::long_count(bytes[0], bytes[1])),
         Why::BadChecksum,
     )
 }

@@ -11,28 +11,18 @@ use command::Lookup;
 use command::Next;
 use command::Reply;
 use command::Why;
+use command::at_once;
 use command::code;
-use memories::Change;
 
-// The command that a byte asks for, if there is one.
+// The command that a byte asks for, if there is one: UART has not the one that sets the speed.
 pub fn look_up(byte: u8) -> Lookup
     ensures { λ r. ⌜ r ≡ lookUp uartCommands byte ⌝ }
 {
-    match byte {
-        code::GET_COMMANDS => Lookup::Known(Command::GetCommands),
-        code::GET_VERSION => Lookup::Known(Command::GetVersion),
-        code::GET_DEVICE_ID => Lookup::Known(Command::GetDeviceId),
-        code::READ_MEMORY => Lookup::Known(Command::ReadMemory),
-        code::JUMP => Lookup::Known(Command::Jump),
-        code::WRITE_MEMORY => Lookup::Known(Command::WriteMemory),
-        code::ERASE => Lookup::Known(Command::Erase),
-        code::PROGRAM_PROTECT => Lookup::Known(Command::ProgramProtect),
-        code::PROGRAM_UNPROTECT => Lookup::Known(Command::ProgramUnprotect),
-        code::ACCESS_PROTECT => Lookup::Known(Command::AccessProtect),
-        code::ACCESS_UNPROTECT => Lookup::Known(Command::AccessUnprotect),
-        code::FIRMWARE_CRC => Lookup::Known(Command::FirmwareCrc),
-        code::RESET_DEVICE => Lookup::Known(Command::ResetDevice),
-        _ => Lookup::Unknown,
+    let speed = byte == code::SPEED;
+    if speed {
+        Lookup::Unknown
+    } else {
+        code::look_up(byte)
     }
 }
 
@@ -48,19 +38,19 @@ fn obeyed(command: Command) -> Decision
     ensures { λ r. ⌜ r ≡ obeyed command ⌝ }
 {
     match command {
-        Command::GetCommands => command::answer(Reply::Commands, Next::GoIdle),
-        Command::GetVersion => command::answer(Reply::Version, Next::GoIdle),
-        Command::GetDeviceId => command::answer(Reply::DeviceId, Next::GoIdle),
+        Command::GetCommands => at_once::tell(Reply::Commands),
+        Command::GetVersion => at_once::tell(Reply::Version),
+        Command::GetDeviceId => at_once::tell(Reply::DeviceId),
         Command::ReadMemory => go_on(Step::ReadAddress, crate::CHECKED_ADDRESS),
         Command::Jump => go_on(Step::JumpAddress, crate::CHECKED_ADDRESS),
         Command::WriteMemory => go_on(Step::WriteAddress, crate::CHECKED_ADDRESS),
         Command::Erase => go_on(Step::EraseSelector, crate::SELECTOR_BYTES),
         Command::ProgramProtect => go_on(Step::ProtectLength, crate::ONE_BYTE),
-        Command::ProgramUnprotect => command::alter(Reply::AckAck, Change::Release, Next::Reset),
-        Command::AccessProtect => command::alter(Reply::AckAck, Change::Lock, Next::Reset),
-        Command::AccessUnprotect => command::alter(Reply::AckAck, Change::Unlock, Next::Reset),
+        Command::ProgramUnprotect => at_once::release(),
+        Command::AccessProtect => at_once::lock(),
+        Command::AccessUnprotect => at_once::unlock(),
         Command::FirmwareCrc => go_on(Step::CrcAddress, crate::CHECKED_ADDRESS),
-        Command::ResetDevice => command::answer(Reply::AckAck, Next::Reset),
+        Command::ResetDevice => at_once::reset(),
         Command::Speed => command::nack(Why::UnknownCommand),
     }
 }

@@ -1,7 +1,6 @@
 -- The sectors are summed, if the check of their count is right.
 use borrow.Author.Needs.{needs}
 use native.Mathlib.Omega.{arith}
-use native.Mathlib.Omega.{arith}
 use Rattle.words.proofs.Slices.{take-two}
 use Rattle.uart.specs.Conversation.{complete}
 use Rattle.uart.proofs.conversation.crc_ends.Statement.{statement}
@@ -19,5 +18,4 @@ crc-ends-spec =
     (λ c κs. search needs)
     (λ c κs. search needs)
     (λ c κs. search needs)
-    (λ c κs. search needs)
-    (λ c. rw (← c .before .before .before .before .before .before .xor-from .ensures, take-two (c .before .before .before .before .before .before .before .before .before .args .bytes .now) (omega arith), ← c .before .before .before .number2 .ensures, ← c .before .before .count .ensures, ← c .before .sum .ensures) (c .accept-if .ensures)))
+    (λ c. rw (← c .before .before .before .before .before .xor-from .ensures, take-two (c .before .before .before .before .before .before .before .before .args .bytes .now) (omega arith), ← c .before .before .long-count .ensures .0, ← c .before .sum .ensures) (c .accept-if .ensures)))

@@ -2,8 +2,8 @@
 use borrow.Author.Needs.{needs}
 use native.Mathlib.Omega.{arith}
 use Rattle.words.proofs.Slices.{take-four}
-use Rattle.uart.proofs.address.address_in.Statement.{statement}
-use Rattle.uart.proofs.address.address_in.Tie as tie
+use Rattle.command.proofs.sent.address_in.Statement.{statement}
+use Rattle.command.proofs.sent.address_in.Tie as tie
 
 pub address-in-spec : {M : Type 1} → statement M
 address-in-spec =
