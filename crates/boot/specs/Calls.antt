@@ -82,7 +82,7 @@ unfoldable pub sent : Input → Session → List (List ℕ) → List ℕ
 sent Power s ms = []
 sent (Byte room b) s ms = join ms
 sent (Framed room l) s ms =
-    framed classic (if on Can s then CC.bears (C.stepOf (s .step)) (frameIn l) else frameIn l .id) ms
+    framed classic (if on Can s then CC.bears (C.stepOf (s .step)) (frameIn l .id) else frameIn l .id) ms
 
 -- a decision is carried out
 unfoldable pub perform : Input → State → Decision → Outcome

@@ -68,5 +68,5 @@ rulings =
     ∷ []
 
 pub ruled : decisions rulings ≡ papers rulings
-unfolding placeOf writeProtected if_gives_else_ judged Q.unlessProtected Q.readAt Q.reading Q.writeVerdictAt Q.writeVerdict Q.writeAt Q.writing Q.selectorOf Q.eraseVerdict Q.erasing Q.eraseAllVerdict Q.protectVerdict Q.protecting Q.jumping Q.sumAt Q.summing C.erasedOrNot C.selected C.obeyed C.commanded C.gathering C.unlessExtra C.heard
+unfolding placeOf writeProtected if_gives_else_ judged Q.unlessProtected Q.readAt Q.reading Q.writeVerdictAt Q.writeVerdict Q.writeAt Q.writing Q.selectorOf Q.eraseVerdict Q.erasing Q.eraseAllVerdict Q.protectVerdict Q.protecting Q.jumping Q.sumAt Q.summing C.erasedOrNot C.selected C.obeyed C.commanded C.gathering C.unlessExtra C.decided C.heard
 ruled = refl

@@ -1,6 +1,6 @@
 -- The CAN conversation, command by command and step by step: document 01, "CAN conversation".
 use Prim.Native.Nat.{ℕ, _+_}
-use mathlib.Core.Bool.{Bool, true, not, _||_}
+use mathlib.Core.Bool.{Bool, true, false, not, _||_}
 use mathlib.Core.List.{List, _∷_, map}
 use lib.ListN.{length, getD, take, drop}
 use lib.Dec.{eqb, leb}
@@ -11,7 +11,7 @@ use Rattle.board.specs.declared.Address.{Address}
 use Rattle.memories.specs.declared.Change.the-variants.{EraseAll}
 use Rattle.command.specs.Commands.{code, canCommands, lookUp}
 use Rattle.command.specs.Decision.{if_gives_else_, answer, alter, nack, judged}
-use Rattle.command.specs.Progress.{Progress, stagedWith, short, overfull}
+use Rattle.command.specs.Progress.{Progress, progressAt, stagedWith, short, overfull}
 use Rattle.command.specs.Rules.{unlessProtected, telling, reading, writeVerdict, writing, selectorOf, erasing, eraseAllVerdict, protecting, releasing, locking, unlocking, resetting, jumping, summing}
 use Rattle.command.specs.declared.Command.{Command}
 use Rattle.command.specs.declared.Command.the-variants.{GetCommands, GetVersion, GetDeviceId, ReadMemory, Jump, WriteMemory, Erase, ProgramProtect, ProgramUnprotect, AccessProtect, AccessUnprotect, FirmwareCrc, ResetDevice, Speed}
@@ -25,7 +25,7 @@ use Rattle.command.specs.declared.Selector.the-variants.{Listed, Special, Impos
 use Rattle.command.specs.declared.Verdict.{Verdict}
 use Rattle.command.specs.declared.Verdict.the-variants.{Fine, No}
 use Rattle.command.specs.declared.Why.the-variants.{BadComplement, UnknownCommand, OtherFrame, BadRange, BadSpeed}
-use Rattle.can.specs.Frames.{Frame, carried}
+use Rattle.can.specs.Frames.{Frame, carried, counted}
 use Rattle.can.specs.Steps.{stepNo, expectedForNumbers, numbersIn}
 use Rattle.can.specs.declared.Step.{Step}
 use Rattle.can.specs.declared.Step.the-variants.{Idle, WriteData, EraseList, ProtectList}
@@ -62,6 +62,11 @@ dlcFits AccessUnprotect n = true
 dlcFits FirmwareCrc n = eqb n 6
 dlcFits ResetDevice n = true
 dlcFits Speed n = eqb n 2
+
+-- the same for the command that was looked up; where there is none, no DLC is right
+abbrev pub dlcRight : Lookup → ℕ → Bool
+dlcRight (Known c) n = dlcFits c n
+dlcRight Unknown n = false
 
 -- the address that a command frame's data begin with
 abbrev pub addressIn : List ℕ → Address
@@ -112,25 +117,28 @@ commanded usd d Unknown = nack UnknownCommand
 unfoldable pub gathering : Command → Progress → Frame → Decision → Decision
 gathering c p f done =
     if not (eqb (f .id) (code c)) || eqb (f .dlc) 0 gives nack OtherFrame
-    else if short p (carried f) gives answer Silence Gather
+    else if short p (f .bytes) gives answer Silence Gather
     else done
 
 -- extra bytes in an index list refuse it
 unfoldable pub unlessExtra : Progress → Frame → Decision → Decision
-unlessExtra p f d = if overfull p (carried f) gives nack BadRange else d
+unlessExtra p f d = if overfull p (f .bytes) gives nack BadRange else d
+
+-- one frame of a connected host, given the progress with its bytes staged, and only those of its bytes that count
+unfoldable pub decided : Step → Progress → List ℕ → Frame → Decision
+decided Idle p usd f = commanded usd (f .bytes) (lookUp canCommands (f .id))
+decided WriteData p usd f = gathering WriteMemory p f (writing usd (address (p .address)) (p .expected))
+decided EraseList p usd f = gathering Erase p f (unlessExtra p f (erasing usd (p .staged) (numbersIn (p .expected))))
+decided ProtectList p usd f = gathering ProgramProtect p f (unlessExtra p f (protecting (p .staged) (p .expected)))
 
 -- one frame of a connected host
 unfoldable pub heard : Step → Progress → List ℕ → Frame → Decision
-heard Idle p usd f = commanded usd (carried f) (lookUp canCommands (f .id))
-heard WriteData p usd f = gathering WriteMemory p f (writing usd (address (p .address)) (p .expected))
-heard EraseList p usd f =
-    gathering Erase p f (unlessExtra p f (erasing usd (stagedWith p (carried f)) (numbersIn (p .expected))))
-heard ProtectList p usd f =
-    gathering ProgramProtect p f (unlessExtra p f (protecting (stagedWith p (carried f)) (p .expected)))
+heard s p usd f =
+    decided s (progressAt (p .taken) (p .expected) (p .address) (stagedWith p (carried f))) usd (counted f)
 
 -- the ID that replies bear: the frame's own, or while gathering the running one
-abbrev pub bears : Step → Frame → ℕ
-bears Idle f = f .id
-bears WriteData f = code WriteMemory
-bears EraseList f = code Erase
-bears ProtectList f = code ProgramProtect
+abbrev pub bears : Step → ℕ → ℕ
+bears Idle id = id
+bears WriteData id = code WriteMemory
+bears EraseList id = code Erase
+bears ProtectList id = code ProgramProtect

@@ -37,6 +37,14 @@ frameIn l = record { id = number (take 2 l); dlc = getD l 2 0; bytes = drop head
 abbrev pub carried : Frame → List ℕ
 carried f = take (f .dlc) (f .bytes)
 
+-- the frame without the data bytes that do not count
+abbrev pub counted : Frame → Frame
+counted f = record { id = f .id; dlc = f .dlc; bytes = carried f }
+
+-- the frame of an ID and of data bytes that all count
+abbrev pub frameOf : ℕ → List ℕ → Frame
+frameOf id l = record { id = id; dlc = length l; bytes = l }
+
 -- a slice holds a frame of a kind
 abbrev pub isFrame : Kind → List ℕ → Bool
 isFrame k l =

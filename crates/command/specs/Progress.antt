@@ -13,6 +13,10 @@ pub record Progress : Type 0 where
   pub address : ℕ
   pub staged : List ℕ
 
+-- the progress that has these numbers and these staged bytes
+abbrev pub progressAt : ℕ → ℕ → ℕ → List ℕ → Progress
+progressAt taken expected a staged = record { taken = taken; expected = expected; address = a; staged = staged }
+
 -- the new bytes that the step still expects; extra ones are dropped
 abbrev pub fitting : Progress → List ℕ → List ℕ
 fitting p new = take (p .expected - p .taken) new

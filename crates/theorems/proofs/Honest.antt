@@ -220,12 +220,16 @@ can-unless : (p : Progress) (f : Frame) {d : Decision} → Holds Honest d → Ho
 unfolding CC.unlessExtra
 can-unless p f h = choice _ no-change h
 
+can-decided : (s : CS.Step) (p : Progress) (usd : List ℕ) (f : Frame) → Holds Honest (CC.decided s p usd f)
+unfolding CC.decided
+can-decided CS.Step.Idle p usd f = can-commanded usd _ _
+can-decided CS.Step.WriteData p usd f = can-gathering _ p f (writing-honest usd _ _)
+can-decided CS.Step.EraseList p usd f = can-gathering _ p f (can-unless p f (erasing-honest usd _ _))
+can-decided CS.Step.ProtectList p usd f = can-gathering _ p f (can-unless p f (protecting-honest _ _))
+
 can-heard : (s : CS.Step) (p : Progress) (usd : List ℕ) (f : Frame) → Holds Honest (CC.heard s p usd f)
 unfolding CC.heard
-can-heard CS.Step.Idle p usd f = can-commanded usd _ _
-can-heard CS.Step.WriteData p usd f = can-gathering _ p f (writing-honest usd _ _)
-can-heard CS.Step.EraseList p usd f = can-gathering _ p f (can-unless p f (erasing-honest usd _ _))
-can-heard CS.Step.ProtectList p usd f = can-gathering _ p f (can-unless p f (protecting-honest _ _))
+can-heard s p usd f = can-decided s _ usd _
 
 -- ---- any input
 

@@ -86,7 +86,7 @@ module _ (p : Progress) (usd : List ℕ) where
       either P _ (unprotecting s x tt) (either P _ (protecting-accepts s x) (unprotecting s x tt))
 
   can-protect : (f : Frame) → Holds (Protecting (stagedWith p (carried f)) (p .expected)) (CC.heard CS.Step.ProtectList p usd f)
-  unfolding CC.heard CC.gathering CC.unlessExtra
+  unfolding CC.heard CC.decided CC.gathering CC.unlessExtra
   can-protect f =
       let s = stagedWith p (carried f) in
       let x = p .expected in
@@ -138,7 +138,7 @@ module _ (p : Progress) (usd : List ℕ) where
       either P _ (unerasing usd s x tt) (either P _ (erasing-accepts usd s x) (unerasing usd s x tt))
 
   can-erase : (f : Frame) → Holds (Erasing usd (stagedWith p (carried f)) (C.numbersIn (p .expected))) (CC.heard CS.Step.EraseList p usd f)
-  unfolding CC.heard CC.gathering CC.unlessExtra
+  unfolding CC.heard CC.decided CC.gathering CC.unlessExtra
   can-erase f =
       let s = stagedWith p (carried f) in
       let x = C.numbersIn (p .expected) in

@@ -238,7 +238,7 @@ can-commanded usd d l Unknown = told Can tt tt
 
 can-heard : (s : CS.Step) → T (calmOnCan s) → (p : Progress) (usd : List ℕ) (f : Frame) → T (protectionOn usd)
     → Holds (Discreet Can) (CC.heard s p usd f)
-unfolding CC.heard
+unfolding CC.heard CC.decided
 can-heard CS.Step.Idle h p usd f l = can-commanded usd _ l _
 can-heard CS.Step.WriteData h p usd f l = absurd h
 can-heard CS.Step.EraseList h p usd f l = absurd h

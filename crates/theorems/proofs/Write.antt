@@ -130,7 +130,7 @@ uart-only p usd b =
     (either (Only (p .address) (U.countIn (p .expected))) _ (writing-only usd _ _) (record { holds = tt }))
 
 can-only : (p : Progress) (usd : List ℕ) (f : Frame) → Holds (Only (p .address) (p .expected)) (CC.heard CS.Step.WriteData p usd f)
-unfolding CC.heard CC.gathering
+unfolding CC.heard CC.decided CC.gathering
 can-only p usd f =
     either (Only (p .address) (p .expected)) _ (record { holds = tt })
     (either (Only (p .address) (p .expected)) _ (record { holds = tt }) (writing-only usd _ _))
