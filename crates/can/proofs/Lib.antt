@@ -1,2 +1,4 @@
 pub mod Steps
+mod Carried
+pub mod Good
 pub mod Rulings

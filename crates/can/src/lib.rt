@@ -1,3 +1,6 @@
+pub mod conversation;
+mod obey;
+
 ghost use mathlib.Core.Path.{_≡_};
 ghost use Rattle.can.specs.Steps.{stepNo, stepOf, expects};
 use board::Board;
