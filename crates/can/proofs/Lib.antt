@@ -2,3 +2,4 @@ pub mod Steps
 mod Carried
 pub mod Good
 pub mod Rulings
+pub mod Cutting

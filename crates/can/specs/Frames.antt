@@ -11,9 +11,17 @@ use Rattle.words.specs.Lists.{cut}
 pub record Kind : Type 0 where
   pub largest : ℕ
 
+-- the kind of a size
+abbrev pub kindOf : ℕ → Kind
+kindOf n = record { largest = n }
+
 -- classic CAN
 abbrev pub classic : Kind
-classic = record { largest = 8 }
+classic = kindOf 8
+
+-- a DLC is one byte
+abbrev pub largestDlc : ℕ
+largestDlc = 255
 
 -- a frame: ID, DLC, data bytes
 pub record Frame : Type 0 where
@@ -63,3 +71,8 @@ frames k id (l ∷ ls) = frame k id l ++ frames k id ls
 abbrev pub framed : Kind → ℕ → List (List ℕ) → List ℕ
 framed k id [] = []
 framed k id (m ∷ ms) = frames k id (cut (k .largest) m) ++ framed k id ms
+
+-- bytes as frames under an ID: the first by itself, the rest so many to a frame
+abbrev pub firstAlone : Kind → ℕ → ℕ → List ℕ → List ℕ
+firstAlone k id n [] = []
+firstAlone k id n (b ∷ l) = frame k id (b ∷ []) ++ frames k id (cut n l)

@@ -1,5 +1,6 @@
 pub mod conversation;
 mod obey;
+pub mod say;
 
 ghost use mathlib.Core.Path.{_≡_};
 ghost use Rattle.can.specs.Steps.{stepNo, stepOf, expects};

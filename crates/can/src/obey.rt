@@ -5,7 +5,7 @@ ghost use lib.ListN.{length};
 ghost use Rattle.board.specs.Board.{extentOf};
 ghost use Rattle.board.specs.declared.Region.the-variants.{Usd};
 ghost use Rattle.command.specs.Commands.{canCommands, lookUp};
-ghost use Rattle.command.specs.declared.Command.the-variants.{ReadMemory, Jump, WriteMemory, Erase, ProgramProtect, FirmwareCrc, Speed};
+ghost use Rattle.command.specs.declared.Command.the-variants.{ReadMemory, WriteMemory, Erase, ProgramProtect, FirmwareCrc, Speed};
 ghost use Rattle.can.specs.Conversation.{dlcFits, dlcRight, erasedOrNot, selected, obeyed, commanded};
 use crate::Step;
 use command::Command;

@@ -1,4 +1,3 @@
 pub mod Steps
 pub mod Good
-mod Fixed
 pub mod Rulings

@@ -1,212 +1,50 @@
-ghost use mathlib.Core.Path.{_≡_};
-ghost use mathlib.Core.List.{_∷_};
-ghost use Prim.Native.Nat.{_+_, _≤_};
+ghost use Prim.Native.Nat.{_≤_};
 ghost use lib.Dec.{T};
-ghost use lib.ListN.{length, take};
-ghost use Rattle.words.specs.Bytes.{fourBytes};
-ghost use Rattle.words.specs.Lists.{join, part};
-ghost use Rattle.words.specs.Over.{put};
-ghost use Rattle.board.specs.Board.{extentOf};
-ghost use Rattle.board.specs.Quantities.{largestCount};
-ghost use Rattle.crc.specs.Crc.{crc};
-ghost use Rattle.memories.specs.Memories.{Memories, memories, proper, bytesOf};
-ghost use Rattle.command.specs.Says.{ackByte, says, sayable, fixed, Said};
+ghost use lib.ListN.{length};
+ghost use Rattle.words.specs.Lists.{join};
+ghost use Rattle.memories.specs.Memories.{memories, proper};
+ghost use Rattle.command.specs.Says.{says, sayable, Said};
+ghost use Rattle.reply.specs.Fixed.{Holds, Lists};
 ghost use Rattle.uart.specs.Conversation.{uartRoom, commandBytes};
 use board::Board;
-use board::Region;
 use command::Reply;
 use command::code;
-
-// ACK and NACK.
-pub const ACK: u8 = 0x79;
-
-pub const NACK: u8 = 0x1F;
+use reply::ACK;
+use reply::Fixed;
 
 // The room that a reply may need.
-pub const ROOM: usize = 257;
+pub const ROOM: usize = reply::ROOM;
 
 // n, which counts version and commands.
 const N: u8 = 0x0E;
 
-// The byte before the product ID.
-const DEVICE_TOLD: u8 = 0x04;
-
-// The bytes of the replies to 0x01, to 0x02 and of a checksum.
-const VERSION_LENGTH: usize = 5;
-
-const DEVICE_LENGTH: usize = 8;
-
-const SUM_LENGTH: usize = 5;
-
-// The bytes of the longest fixed reply, that to 0x00.
-const LONGEST: usize = 17;
-
-// ACK and NACK.
-const ACK_NACK: [u8; LONGEST] = [ACK, NACK, 0, 0, 0, 0, 0, 0, 0, 0, 0, 0, 0, 0, 0, 0, 0];
-
 // What 0x00 tells, between two ACKs.
-const COMMANDS: [u8; LONGEST] = [
-    ACK,
-    N,
-    Board::VERSION,
-    code::GET_COMMANDS,
-    code::GET_VERSION,
-    code::GET_DEVICE_ID,
-    code::READ_MEMORY,
-    code::JUMP,
-    code::WRITE_MEMORY,
-    code::ERASE,
-    code::PROGRAM_PROTECT,
-    code::PROGRAM_UNPROTECT,
-    code::ACCESS_PROTECT,
-    code::ACCESS_UNPROTECT,
-    code::FIRMWARE_CRC,
-    code::RESET_DEVICE,
-    ACK,
-];
-
-// What 0x01 tells, between two ACKs.
-const VERSION: [u8; LONGEST] = [
-    ACK,
-    Board::VERSION,
-    Board::BID_FIRST,
-    Board::BID_SECOND,
-    ACK,
-    0,
-    0,
-    0,
-    0,
-    0,
-    0,
-    0,
-    0,
-    0,
-    0,
-    0,
-    0,
-];
-
-// What 0x02 tells, between two ACKs.
-const DEVICE: [u8; LONGEST] = [
-    ACK,
-    DEVICE_TOLD,
-    (Board::PRODUCT / 256 % 256) as u8,
-    (Board::PRODUCT % 256) as u8,
-    (Board::PRODUCT / 16777216 % 256) as u8,
-    (Board::PRODUCT / 65536 % 256) as u8,
-    Board::PROJECT,
-    ACK,
-    0,
-    0,
-    0,
-    0,
-    0,
-    0,
-    0,
-    0,
-    0,
-];
-
-// Writes ACK and x bytes of a memory.
-fn say_bytes(memory: &[u8], at: usize, x: usize, buffer: &mut [u8]) -> usize
-    requires { ⌜ (x ≤ largestCount) × (at + x ≤ length (now memory)) × (uartRoom ≤ length (now buffer)) ⌝ }
-    ensures { λ r. ⌜ (r ≡ x + 1) × (now (buffer .exit) ≡ put (now (buffer .entry)) 0 (ackByte ∷ part at x (now (memory .entry)))) ⌝ }
+fn commands() -> Fixed
+    ensures { λ r. ⌜ Holds r × Lists r commandBytes ⌝ }
 {
-    buffer[0] = ACK;
-    words::copy(buffer, 1, memory, at, x);
-    x + 1
-}
-
-// Writes ACK and the four bytes of a checksum, high first.
-fn say_crc(value: u32, buffer: &mut [u8]) -> usize
-    requires { ⌜ uartRoom ≤ length (now buffer) ⌝ }
-    ensures { λ r. ⌜ (r ≡ length (ackByte ∷ fourBytes value)) × (now (buffer .exit) ≡ put (now (buffer .entry)) 0 (ackByte ∷ fourBytes value)) ⌝ }
-{
-    let told = [
-        ACK,
-        (value / 16777216 % 256) as u8,
-        (value / 65536 % 256) as u8,
-        (value / 256 % 256) as u8,
-        (value % 256) as u8,
-    ];
-    words::copy(buffer, 0, &told, 0, SUM_LENGTH);
-    SUM_LENGTH
-}
-
-// Writes x bytes of a region behind ACK.
-fn say_data(
-    region: Region,
-    at: usize,
-    x: usize,
-    flash: &[u8],
-    sram: &[u8],
-    usd: &[u8],
-    buffer: &mut [u8],
-) -> usize
-    requires { ⌜ T (proper (memories (now flash) (now sram) (now usd))) × (x ≤ largestCount) × (at + x ≤ extentOf region .bytes) × (uartRoom ≤ length (now buffer)) ⌝ }
-    ensures { λ r. ⌜ (r ≡ x + 1) × (now (buffer .exit) ≡ put (now (buffer .entry)) 0 (ackByte ∷ part at x (bytesOf region (memories (now (flash .entry)) (now (sram .entry)) (now (usd .entry)))))) ⌝ }
-{
-    match region {
-        Region::Flash => say_bytes(flash, at, x, buffer),
-        Region::Sram => say_bytes(sram, at, x, buffer),
-        Region::Usd => say_bytes(usd, at, x, buffer),
+    Fixed {
+        bytes: [
+            ACK,
+            N,
+            Board::VERSION,
+            code::GET_COMMANDS,
+            code::GET_VERSION,
+            code::GET_DEVICE_ID,
+            code::READ_MEMORY,
+            code::JUMP,
+            code::WRITE_MEMORY,
+            code::ERASE,
+            code::PROGRAM_PROTECT,
+            code::PROGRAM_UNPROTECT,
+            code::ACCESS_PROTECT,
+            code::ACCESS_UNPROTECT,
+            code::FIRMWARE_CRC,
+            code::RESET_DEVICE,
+            ACK,
+            0,
+        ],
+        count: 17,
     }
-}
-
-// A fixed reply: bytes, of which the first few are the reply, and how many these are.
-struct Fixed {
-    bytes: [u8; LONGEST],
-    count: usize,
-}
-
-// The bytes of a reply that tells nothing of a memory.
-fn fixed_bytes(reply: Reply) -> Fixed
-    requires { ⌜ T (fixed reply) ⌝ }
-    ensures { λ r. ⌜ (r .count ≤ length (r .bytes)) × (length (r .bytes) ≤ uartRoom) × ((m : Memories) → take (r .count) (r .bytes) ≡ join (says commandBytes reply m)) ⌝ }
-{
-    match reply {
-        Reply::Ack => Fixed {
-            bytes: [ACK; LONGEST],
-            count: 1,
-        },
-        Reply::AckAck => Fixed {
-            bytes: [ACK; LONGEST],
-            count: 2,
-        },
-        Reply::Nack(_) => Fixed {
-            bytes: [NACK; LONGEST],
-            count: 1,
-        },
-        Reply::AckNack(_) => Fixed {
-            bytes: ACK_NACK,
-            count: 2,
-        },
-        Reply::Commands => Fixed {
-            bytes: COMMANDS,
-            count: LONGEST,
-        },
-        Reply::Version => Fixed {
-            bytes: VERSION,
-            count: VERSION_LENGTH,
-        },
-        Reply::DeviceId => Fixed {
-            bytes: DEVICE,
-            count: DEVICE_LENGTH,
-        },
-        _ => Fixed {
-            bytes: [0; LONGEST],
-            count: 0,
-        },
-    }
-}
-
-// Writes the checksum of n bytes of flash behind ACK.
-fn say_sum(flash: &[u8], at: usize, n: usize, buffer: &mut [u8]) -> usize
-    requires { ⌜ (at + n ≤ length (now flash)) × (uartRoom ≤ length (now buffer)) ⌝ }
-    ensures { λ r. ⌜ (r ≡ length (ackByte ∷ fourBytes (crc (part at n (now (flash .entry)))))) × (now (buffer .exit) ≡ put (now (buffer .entry)) 0 (ackByte ∷ fourBytes (crc (part at n (now (flash .entry)))))) ⌝ }
-{
-    let end = at + n;
-    say_crc(crc::crc(&flash[at..end]), buffer)
 }
 
 // Writes a reply that can be given, and tells its length.
@@ -214,14 +52,5 @@ pub fn say(reply: Reply, flash: &[u8], sram: &[u8], usd: &[u8], buffer: &mut [u8
     requires { ⌜ T (proper (memories (now flash) (now sram) (now usd))) × T (sayable reply) × (uartRoom ≤ length (now buffer)) ⌝ }
     ensures { λ r. ⌜ Said (join (says commandBytes reply (memories (now (flash .entry)) (now (sram .entry)) (now (usd .entry))))) r (now (buffer .entry)) (now (buffer .exit)) ⌝ }
 {
-    match reply {
-        Reply::Data(region, at, x) => say_data(region, at, x, flash, sram, usd, buffer),
-        Reply::Crc(at, n) => say_sum(flash, at, n, buffer),
-        _ => {
-            let told = fixed_bytes(reply);
-            let bytes = told.bytes;
-            words::copy(buffer, 0, &bytes, 0, told.count);
-            told.count
-        }
-    }
+    reply::say(commands(), reply, flash, sram, usd, buffer)
 }

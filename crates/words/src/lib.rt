@@ -1,6 +1,6 @@
 ghost use mathlib.Core.Path.{_≡_};
 ghost use mathlib.Core.List.{[], _∷_};
-ghost use Prim.Native.Nat.{_+_, _≤_, _<_};
+ghost use Prim.Native.Nat.{_+_, _≤_, _<_, min};
 ghost use lib.Dec.{eqb};
 ghost use lib.ListN.{length, getD, take, drop, replicate};
 ghost use lib.Bits.{bitAnd};
@@ -34,6 +34,13 @@ pub fn first(bytes: &[u8]) -> u8
     ensures { λ r. ⌜ (r ≡ getD (now (bytes .entry)) 0 0) × (r < 256) ⌝ }
 {
     bytes[0]
+}
+
+// The lesser of two numbers.
+pub fn least(a: usize, b: usize) -> usize
+    ensures { λ r. ⌜ r ≡ min a b ⌝ }
+{
+    if a < b { a } else { b }
 }
 
 // The XOR of a byte and the first n of some bytes.

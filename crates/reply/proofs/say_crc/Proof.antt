@@ -3,8 +3,8 @@ use borrow.Author.Needs.{needs}
 use native.Mathlib.Omega.{arith}
 use mathlib.Core.Path.{_≡_, refl}
 use Prim.Native.Nat.{_/_, _%_}
-use Rattle.uart.proofs.say.say_crc.Statement.{statement}
-use Rattle.uart.proofs.say.say_crc.Tie as tie
+use Rattle.reply.proofs.say_crc.Statement.{statement}
+use Rattle.reply.proofs.say_crc.Tie as tie
 
 pub say-crc-spec : {M : Type 1} → statement M
 say-crc-spec =

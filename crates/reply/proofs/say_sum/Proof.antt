@@ -5,8 +5,8 @@ use mathlib.Core.Path.{_≡_, _∙_, ap}
 use Prim.Native.Nat.{ℕ, _+_, _-_}
 use Rattle.crc.specs.Crc.{crc}
 use Rattle.words.specs.Lists.{part}
-use Rattle.uart.proofs.say.say_sum.Statement.{statement}
-use Rattle.uart.proofs.say.say_sum.Tie as tie
+use Rattle.reply.proofs.say_sum.Statement.{statement}
+use Rattle.reply.proofs.say_sum.Tie as tie
 
 pub say-sum-spec : {M : Type 1} → statement M
 say-sum-spec =

@@ -6,8 +6,8 @@ use lib.ListN.{length, length-set}
 use Rattle.words.specs.Lists.{part}
 use Rattle.words.proofs.Over.{put-cons, length-over}
 use Rattle.words.specs.Over.{newer}
-use Rattle.uart.proofs.say.say_bytes.Statement.{statement}
-use Rattle.uart.proofs.say.say_bytes.Tie as tie
+use Rattle.reply.proofs.say_bytes.Statement.{statement}
+use Rattle.reply.proofs.say_bytes.Tie as tie
 
 pub say-bytes-spec : {M : Type 1} → statement M
 say-bytes-spec =

@@ -4,8 +4,8 @@ use native.Mathlib.Omega.{arith}
 use Rattle.board.specs.declared.Region.the-variants.{Flash, Sram, Usd}
 use Rattle.memories.specs.Memories.{memories}
 use Rattle.memories.proofs.Memories.{proper-length}
-use Rattle.uart.proofs.say.say_data.Statement.{statement}
-use Rattle.uart.proofs.say.say_data.Tie as tie
+use Rattle.reply.proofs.say_data.Statement.{statement}
+use Rattle.reply.proofs.say_data.Tie as tie
 
 pub say-data-spec : {M : Type 1} → statement M
 say-data-spec =

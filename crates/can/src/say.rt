@@ -1,0 +1,125 @@
+ghost use mathlib.Core.Path.{_≡_};
+ghost use Prim.Native.Nat.{_+_, _≤_, _<_};
+ghost use lib.Dec.{T};
+ghost use lib.ListN.{length};
+ghost use Rattle.words.specs.Lists.{cut};
+ghost use Rattle.words.specs.Over.{put};
+ghost use Rattle.memories.specs.Memories.{memories, proper};
+ghost use Rattle.command.specs.Says.{says, sayable, Said};
+ghost use Rattle.reply.specs.Fixed.{Holds, Lists};
+ghost use Rattle.can.specs.Frames.{classic, kindOf, headBytes, largestDlc, frame, frames, framed, firstAlone};
+ghost use Rattle.can.specs.Conversation.{canRoom, commandBytes, pieceOf};
+use board::Board;
+use command::Reply;
+use command::code;
+use reply::ACK;
+use reply::Fixed;
+
+// The room that a reply may need.
+pub const ROOM: usize = 363;
+
+// The bytes of a frame before its data: ID and DLC.
+pub const HEAD: usize = 3;
+
+// The data bytes of the largest frame of classic CAN.
+pub const CLASSIC: usize = 8;
+
+// n - 1, where n counts version and commands.
+const N_LESS_ONE: u8 = 0x0E;
+
+// What 0x00 tells, between two ACKs.
+fn commands() -> Fixed
+    ensures { λ r. ⌜ Holds r × Lists r commandBytes ⌝ }
+{
+    Fixed {
+        bytes: [
+            ACK,
+            N_LESS_ONE,
+            Board::VERSION,
+            code::GET_COMMANDS,
+            code::GET_VERSION,
+            code::GET_DEVICE_ID,
+            code::READ_MEMORY,
+            code::JUMP,
+            code::WRITE_MEMORY,
+            code::ERASE,
+            code::PROGRAM_PROTECT,
+            code::PROGRAM_UNPROTECT,
+            code::ACCESS_PROTECT,
+            code::ACCESS_UNPROTECT,
+            code::FIRMWARE_CRC,
+            code::RESET_DEVICE,
+            code::SPEED,
+            ACK,
+        ],
+        count: reply::LONGEST,
+    }
+}
+
+// Writes a frame of an ID and a size: unused data bytes are 0.
+fn put_frame(id: u16, bytes: &[u8], size: usize, buffer: &mut [u8], at: usize)
+    requires { ⌜ (length (now bytes) ≤ size) × (size ≤ largestDlc) × (at + (headBytes + size) ≤ length (now buffer)) ⌝ }
+    ensures { λ _. ⌜ now (buffer .exit) ≡ put (now (buffer .entry)) at (frame (kindOf size) id (now (bytes .entry))) ⌝ }
+{
+    let n = bytes.len();
+    let head = [(id / 256 % 256) as u8, (id % 256) as u8, (n % 256) as u8];
+    words::copy(buffer, at, &head, 0, HEAD);
+    words::copy(buffer, at + HEAD, bytes, 0, n);
+    words::fill(buffer, at + HEAD + n, size - n, 0);
+}
+
+// Writes bytes in frames of an ID and a size, so many to a frame and a last with what remains, and tells where they end.
+fn put_frames(
+    id: u16,
+    bytes: &[u8],
+    piece: usize,
+    size: usize,
+    buffer: &mut [u8],
+    at: usize,
+) -> usize
+    requires { ⌜ (0 < piece) × (piece ≤ size) × (size ≤ largestDlc) × (at + length (frames (kindOf size) id (cut piece (now bytes))) ≤ length (now buffer)) ⌝ }
+    ensures { λ r. ⌜ (r ≡ at + length (frames (kindOf size) id (cut piece (now (bytes .entry))))) × (now (buffer .exit) ≡ put (now (buffer .entry)) at (frames (kindOf size) id (cut piece (now (bytes .entry))))) ⌝ }
+{
+    let n = bytes.len();
+    let mut end = at;
+    let mut i = 0;
+    while i < n {
+        let next = words::least(n - i, piece) + i;
+        put_frame(id, &bytes[i..next], size, buffer, end);
+        end += HEAD + size;
+        i = next;
+    }
+    end
+}
+
+// How many bytes of a reply go into one frame.
+fn piece_of(reply: Reply) -> usize
+    ensures { λ r. ⌜ r ≡ pieceOf reply ⌝ }
+{
+    match reply {
+        Reply::Data(_, _, _) | Reply::Crc(_, _) => CLASSIC,
+        _ => 1,
+    }
+}
+
+// Writes a reply's bytes in frames of an ID, the first by itself and the rest so many to a frame, and tells how long they are.
+fn put_reply(id: u16, bytes: &[u8], piece: usize, buffer: &mut [u8]) -> usize
+    requires { ⌜ (0 < piece) × (piece ≤ classic .largest) × (length (firstAlone classic id piece (now bytes)) ≤ length (now buffer)) ⌝ }
+    ensures { λ r. ⌜ Said (firstAlone classic id piece (now (bytes .entry))) r (now (buffer .entry)) (now (buffer .exit)) ⌝ }
+{
+    if bytes.len() == 0 {
+        return 0;
+    }
+    put_frame(id, &bytes[..1], CLASSIC, buffer, 0);
+    put_frames(id, &bytes[1..], piece, CLASSIC, buffer, HEAD + CLASSIC)
+}
+
+// Writes a reply that can be given in frames of an ID, and tells its length.
+pub fn say(reply: Reply, id: u16, flash: &[u8], sram: &[u8], usd: &[u8], buffer: &mut [u8]) -> usize
+    requires { ⌜ T (proper (memories (now flash) (now sram) (now usd))) × T (sayable reply) × (canRoom ≤ length (now buffer)) ⌝ }
+    ensures { λ r. ⌜ Said (framed classic id (says commandBytes reply (memories (now (flash .entry)) (now (sram .entry)) (now (usd .entry))))) r (now (buffer .entry)) (now (buffer .exit)) ⌝ }
+{
+    let mut bytes = [0u8; reply::ROOM];
+    let n = reply::say(commands(), reply, flash, sram, usd, &mut bytes);
+    put_reply(id, &bytes[..n], piece_of(reply), buffer)
+}

@@ -1,0 +1,25 @@
+-- Replies that are fixed bytes, and the most bytes of any reply.
+use Prim.Native.Nat.{ℕ, _+_, _≤_}
+use mathlib.Core.Path.{_≡_}
+use mathlib.Core.List.{List, [], _∷_, _++_}
+use lib.ListN.{length, take}
+use Rattle.board.specs.Quantities.{largestCount}
+use Rattle.command.specs.Says.{ackByte}
+use Rattle.reply.specs.declared.Fixed.{Fixed}
+
+-- the most bytes of a reply: ACK and the bytes of the largest read
+abbrev pub replyRoom : ℕ
+replyRoom = largestCount + 1
+
+-- the most bytes of a fixed reply
+abbrev pub fixedRoom : ℕ
+fixedRoom = 18
+
+-- the bytes that count are there, and no more than a fixed reply has
+pub record Holds (f : Fixed) : Type 0 where
+  pub there : f .count ≤ length (f .bytes)
+  pub few : length (f .bytes) ≤ fixedRoom
+
+-- it is a carrier's answer to 0x00: what it tells of its commands, between two ACKs
+pub record Lists (f : Fixed) (list : List ℕ) : Type 0 where
+  pub told : take (f .count) (f .bytes) ≡ ackByte ∷ list ++ ackByte ∷ []
