@@ -77,7 +77,7 @@ pub decided-good : (s : Step) (p : Progress) → T (expects s (p .expected)) →
 unfolding decided
 decided-good Idle p t usd f b = commanded-good (p .staged) usd (f .bytes) b _
 decided-good WriteData p t usd f b =
-    gathering-good (p .staged) _ p f (writing-good (p .staged) usd _ (p .expected) (S.counted (p .expected) t .1))
+    gathering-good (p .staged) _ p f (writing-good (p .staged) usd _ _ (omega (arith, S.counted (p .expected) t .1)))
 decided-good EraseList p t usd f b =
     let h = S.numbered (p .expected) t in
     gathering-good (p .staged) _ p f (unless-good (p .staged) p f (erasing-good (p .staged) usd (numbersIn (p .expected)) (omega arith)))
