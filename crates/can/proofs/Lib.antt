@@ -1,5 +1,6 @@
 pub mod Steps
 mod Carried
+pub mod Frames
 pub mod Good
 pub mod Rulings
 pub mod Cutting

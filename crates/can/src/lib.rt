@@ -1,4 +1,5 @@
 pub mod conversation;
+pub mod frame;
 mod obey;
 pub mod say;
 

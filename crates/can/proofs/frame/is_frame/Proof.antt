@@ -1,0 +1,16 @@
+-- Where there are 11 bytes, ID and DLC are tested.
+use borrow.Author.Needs.{needs}
+use borrow.Author.Tests.{eq-eqb, ne-eqb}
+use lib.ListN.{length}
+use Rattle.can.proofs.frame.is_frame.Statement.{statement}
+use Rattle.can.proofs.frame.is_frame.Tie as tie
+
+pub is-frame-spec : {M : Type 1} → statement M
+is-frame-spec =
+    tie.close
+    (tie.spec
+    (λ c. search needs)
+    (λ c κs. search needs)
+    (λ c κs. search needs)
+    (λ c. rw (eq-eqb (length (c .before .before .before .before .args .frame .now)) 11 (c .before .before .if1 .taken), ← (c .before .id .ensures), ← (c .dlc .ensures)))
+    (λ c. rw (ne-eqb (length (c .before .before .args .frame .now)) 11 (c .if1 .left))))
