@@ -1,62 +1,99 @@
--- A byte that was decided, said and carried out leaves what the outcome says.
+-- An input that was decided, said and carried out leaves what the outcome says.
 use mathlib.Core.Path.{_≡_, sym, ap, subst, _∙_}
 use mathlib.Core.List.{List, [], _∷_, _++_}
 use Prim.Native.Nat.{ℕ, _<_}
-use lib.Dec.{T}
+use lib.Dec.{T, eqb}
 use lib.ListN.{length, getD, drop}
-use Rattle.words.specs.Lists.{join}
+use lib.Seq.{take-length}
+use Rattle.board.specs.Quantities.{addressBytes}
 use Rattle.memories.specs.Memories.{Memories, memories}
 use Rattle.memories.specs.Effects.{effect}
+use Rattle.command.specs.Progress.{progressAt, stagedWith}
 use Rattle.command.specs.Says.{says, Said}
 use Rattle.command.specs.declared.Decision.{Decision}
 use Rattle.command.proofs.Good.{Good}
-use Rattle.uart.specs.Conversation as UC
-use Rattle.boot.specs.Session.{sound, gathered, after}
-use Rattle.boot.specs.Decide.{decideByte}
-use Rattle.boot.specs.Causes.{causeNo}
-use Rattle.boot.specs.Calls.{Byte, sent, perform}
-use Rattle.boot.specs.Promise.{left, stateOf, Leaves}
-use Rattle.boot.specs.declared.Carrier.the-variants.{Uart}
-use Rattle.boot.specs.declared.Cause.the-variants.{Accepted}
+use Rattle.can.specs.Steps as C
+use Rattle.can.specs.Conversation as CC
+use Rattle.can.specs.Frames.{classic, frameIn, frameOf, isFrame, carried, framed}
+use Rattle.can.proofs.Frames.{carried-length}
+use Rattle.boot.specs.Session.{progress, sound, gathered, after}
+use Rattle.boot.specs.Decide.{connected, decideByte, decideFrame}
+use Rattle.boot.specs.Calls.{Input, Byte, Framed, carrierOf, brings, commandsOf, decide, sent, perform}
+use Rattle.boot.specs.Promise.{left, stateOf, Performed, Leaves}
+use Rattle.boot.specs.declared.Carrier.the-variants.{Can}
 use Rattle.boot.specs.declared.Session.{Session}
-use Rattle.boot.proofs.Good.{byte-good}
+use Rattle.boot.specs.declared.Taken.{Taken}
+use Rattle.boot.proofs.Good.{byte-good, frame-good}
 
-module _ (s : Session) (b : ℕ) (usd : List ℕ) (t : Session) (et : t ≡ gathered (b ∷ []) s) (d : Decision) (ed : d ≡ decideByte s usd b) where
-  -- it can be said and carried out
-  pub byte-can : T (sound s) → getD (t .staged) 0 0 < 256 → Good (t .staged) d
-  byte-can k h =
+module _ (i : Input) (s : Session) (usd : List ℕ) (t : Session) (et : t ≡ gathered (brings i) s) (d : Decision) (ed : d ≡ decide i s usd) where
+  -- what can be said and carried out can be with the session as it was gathered and the decision as it was made
+  pub input-can : Good (gathered (brings i) s .staged) (decide i s usd) → Good (t .staged) d
+  input-can g =
       subst (λ (e : Decision). Good (t .staged) e) (sym ed)
-      (subst (λ (l : List ℕ). Good l (decideByte s usd b)) (sym staged)
-      (byte-good s usd b k (subst (λ (l : List ℕ). getD l 0 0 < 256) staged h) .holds))
-    where
-      staged : t .staged ≡ gathered (b ∷ []) s .staged
-      staged = ap (λ (z : Session). z .staged) et
+      (subst (λ (z : Session). Good (z .staged) (decide i s usd)) (sym et) g)
 
   -- and that is what the outcome says
   module _ (flash sram buffer : List ℕ) where
     -- the bytes that a decision has said
     abbrev pub said : Decision → List ℕ
-    said e = join (says UC.commandBytes (e .reply) (memories flash sram usd))
+    said e = sent i s (says (commandsOf i) (e .reply) (memories flash sram usd))
 
-    pub byte-leaves : {number count : ℕ} {next : Session} {flash' sram' usd' buffer' : List ℕ}
-        → number ≡ causeNo Accepted
+    pub input-leaves : {count : ℕ} {r : Taken} {flash' sram' usd' buffer' : List ℕ}
         → Said (said d) count buffer buffer'
-        → memories flash' sram' usd' ≡ effect (d .change) (t .staged) (memories flash sram usd)
-        → next ≡ after Uart t (d .next) s
-        → Leaves (perform (Byte (length buffer) b) (stateOf s flash sram usd) (decideByte s usd b)) buffer
-        (left (record { number = number; length = count; session = next }) flash' sram' usd' buffer')
-    unfolding perform sent
-    byte-leaves {flash' = flash'} {sram' = sram'} {usd' = usd'} en es em en' = record {
-      number = en;
-      count = es .count ∙ ap (λ (e : Decision). length (said e)) ed;
-      session = en' ∙ ap (λ (z : Session). after Uart z (d .next) s) et ∙ ap (λ (e : Decision). after Uart (gathered (b ∷ []) s) (e .next) s) ed;
+        → Performed (carrierOf i) s t d count (memories flash sram usd) r (memories flash' sram' usd')
+        → Leaves (perform i (stateOf s flash sram usd) (decide i s usd)) buffer (left r flash' sram' usd' buffer')
+    unfolding perform
+    input-leaves {flash' = flash'} {sram' = sram'} {usd' = usd'} es p = record {
+      number = ap (λ (z : Taken). z .number) (p .result);
+      count = ap (λ (z : Taken). z .length) (p .result) ∙ es .count ∙ ap (λ (e : Decision). length (said e)) ed;
+      session =
+          ap (λ (z : Taken). z .session) (p .result) ∙ ap (λ (z : Session). after (carrierOf i) z (d .next) s) et
+          ∙ ap (λ (e : Decision). after (carrierOf i) (gathered (brings i) s) (e .next) s) ed;
       flash = ap (λ (z : Memories). z .flash) carried;
       sram = ap (λ (z : Memories). z .sram) carried;
       usd = ap (λ (z : Memories). z .usd) carried;
       buffer = es .buffer ∙ ap (λ (e : Decision). said e ++ drop (length (said e)) buffer) ed;
     }
       where
-        carried : memories flash' sram' usd' ≡ effect (decideByte s usd b .change) (gathered (b ∷ []) s .staged) (memories flash sram usd)
+        carried : memories flash' sram' usd' ≡ effect (decide i s usd .change) (gathered (brings i) s .staged) (memories flash sram usd)
         carried =
-            em ∙ ap (λ (z : Session). effect (d .change) (z .staged) (memories flash sram usd)) et
-            ∙ ap (λ (e : Decision). effect (e .change) (gathered (b ∷ []) s .staged) (memories flash sram usd)) ed
+            p .memories ∙ ap (λ (z : Session). effect (d .change) (z .staged) (memories flash sram usd)) et
+            ∙ ap (λ (e : Decision). effect (e .change) (gathered (brings i) s .staged) (memories flash sram usd)) ed
+
+-- ---- what a byte and a frame decide, with the session as it was gathered
+
+-- a byte's can be said and carried out, where the first staged byte is below 256
+pub byte-can : (room b : ℕ) (s : Session) (usd : List ℕ) (t : Session) → t ≡ gathered (b ∷ []) s → (d : Decision) → d ≡ decideByte s usd b
+    → T (sound s) → getD (t .staged) 0 0 < 256 → Good (t .staged) d
+unfolding decide
+byte-can room b s usd t et d ed k h =
+    input-can (Byte room b) s usd t et d ed (byte-good s usd b k (subst (λ (z : Session). getD (z .staged) 0 0 < 256) et h) .holds)
+
+-- a frame's can be, where the data byte behind an address is below 256
+pub frame-can : (room : ℕ) (l : List ℕ) (s : Session) (usd : List ℕ) (t : Session) → t ≡ gathered (carried (frameIn l)) s
+    → (d : Decision) → d ≡ decideFrame s usd (frameIn l)
+    → T (sound s) → getD (carried (frameIn l)) addressBytes 0 < 256 → Good (t .staged) d
+unfolding decide
+frame-can room l s usd t et d ed k h =
+    input-can (Framed room l) s usd t et d ed (frame-good s usd (frameIn l) k h .holds)
+
+-- a frame decides what its ID and the data bytes that count do
+pub frame-decided : (s : Session) (usd l : List ℕ) → T (isFrame classic l)
+    → decideFrame s usd (frameOf (frameIn l .id) (carried (frameIn l))) ≡ decideFrame s usd (frameIn l)
+unfolding decideFrame CC.heard
+frame-decided s usd l t =
+    ap (λ (c : List ℕ). hears c (frameOf (frameIn l .id) (carried (frameIn l)) .dlc) c) (take-length (carried (frameIn l)))
+    ∙ ap (λ (n : ℕ). hears (carried (frameIn l)) n (carried (frameIn l))) (carried-length l t)
+  where
+    hears : List ℕ → ℕ → List ℕ → Decision
+    hears c n b =
+        connected Can s (eqb (frameIn l .id) CC.connectId)
+        (CC.decided (C.stepOf (s .step))
+        (progressAt (s .taken) (s .expected) (s .address) (stagedWith (progress s) c)) usd
+        (record { id = frameIn l .id; dlc = n; bytes = b }))
+
+-- messages under an ID are the same under the ID that it is
+pub said-under : {n : ℕ} {before after : List ℕ} (ms : List (List ℕ)) (id id' : ℕ) → id ≡ id'
+    → Said (framed classic id ms) n before after → Said (framed classic id' ms) n before after
+said-under {n = n} {before = before} {after = after} ms id id' e h =
+    subst (λ (x : ℕ). Said (framed classic x ms) n before after) e h

@@ -1,20 +1,20 @@
 -- What an accepted call has, and what an accepted and a refused call leave.
-use mathlib.Core.Path.{_≡_, refl, sym, subst}
+use mathlib.Core.Path.{_≡_, refl, sym, ap, subst}
 use mathlib.Core.Bool.{Bool, true, false, not}
 use mathlib.Core.List.{[], _∷_}
-use Prim.Native.Nat.{ℕ}
 use denote.Enum.Declared.{tagOf}
 use types.Run.{OneOf, miss}
 use lib.Dec.{T}
 use Rattle.words.specs.Choice.{if_then_else_}
 use Rattle.boot.specs.Session.{on, sound}
-use Rattle.boot.specs.Causes.{accepts, causeNo, causeOf}
-use Rattle.boot.specs.Calls.{causeFor, decide, perform, call}
-use Rattle.boot.specs.Promise.{Given, Left, left, outcome, Leaves, Took}
+use Rattle.boot.specs.Causes.{accepts, causeOf}
+use Rattle.boot.specs.Calls.{causeFor, call}
+use Rattle.boot.specs.Promise.{Given, Left, left, performed, refusedTaken, outcome, Leaves, Took}
 use Rattle.boot.specs.declared.Carrier.the-variants.{Running}
 use Rattle.boot.specs.declared.Cause.{Cause}
 use Rattle.boot.specs.declared.Cause.the-variants.{Accepted, WrongMemory, ShortReply, BadFrame, UnsoundSession, BoardRunning}
 use Rattle.boot.specs.declared.Session.{Session}
+use Rattle.boot.specs.declared.Taken.{Taken}
 use Rattle.boot.proofs.Cause.{the-type}
 
 -- memories with their lengths, room for the reply, a well-formed frame and a sound session
@@ -52,17 +52,23 @@ accepted-clear m r f s h = by-tests m r f (sound s) (subst T (sym h) tt)
 module _ (g : Given) (c : Cause) (ec : c ≡ causeFor (g .input) (g .state)) where
   -- an accepted call leaves what its decision does
   pub accepted-took : {l : Left} → accepts c ≡ true
-      → Leaves (perform (g .input) (g .state) (decide (g .input) (g .state .session) (g .state .memories .usd))) (g .buffer) l
+      → Leaves (performed g) (g .buffer) l
       → Took g l
   unfolding outcome call
   accepted-took h k = rw (← ec, h) k
 
   -- a refused call leaves everything as it was
-  pub refused-took : {number : ℕ} → accepts c ≡ false → number ≡ causeNo c
-      → Took g
-      (left (record { number = number; length = 0; session = g .state .session }) (g .state .memories .flash)
-      (g .state .memories .sram) (g .state .memories .usd) (g .buffer))
+  pub refused-took : {r : Taken} → accepts c ≡ false → r ≡ refusedTaken c (g .state .session)
+      → Took g (left r (g .state .memories .flash) (g .state .memories .sram) (g .state .memories .usd) (g .buffer))
   unfolding outcome call
   refused-took h e =
       rw (← ec, h)
-      (record { number = e; count = refl; session = refl; flash = refl; sram = refl; usd = refl; buffer = refl })
+      (record {
+        number = ap (λ (z : Taken). z .number) e;
+        count = ap (λ (z : Taken). z .length) e;
+        session = ap (λ (z : Taken). z .session) e;
+        flash = refl;
+        sram = refl;
+        usd = refl;
+        buffer = refl;
+      })

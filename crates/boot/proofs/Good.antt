@@ -1,25 +1,46 @@
--- What a UART byte decides in a sound session can be carried out and said.
+-- What an input decides in a sound session can be carried out and said.
+use mathlib.Core.Bool.{Bool}
 use mathlib.Core.List.{List, [], _∷_}
 use Prim.Native.Nat.{ℕ, _<_}
 use lib.Dec.{T}
 use lib.ListN.{getD}
+use Rattle.board.specs.Quantities.{addressBytes}
 use Rattle.command.specs.Progress.{stagedWith}
+use Rattle.command.specs.declared.Decision.{Decision}
 use Rattle.command.proofs.Holds.{Holds, either, split}
 use Rattle.command.proofs.Good.{Good, told}
 use Rattle.uart.specs.Steps as U
 use Rattle.uart.specs.Conversation as UC
 use Rattle.uart.proofs.Good.{complete-good}
+use Rattle.can.specs.Steps as C
+use Rattle.can.specs.Frames.{Frame, carried}
+use Rattle.can.proofs.Good as CG
 use Rattle.boot.specs.Session.{on, progress, sound}
-use Rattle.boot.specs.Decide.{connected, decideByte}
-use Rattle.boot.specs.declared.Carrier.the-variants.{Uart}
+use Rattle.boot.specs.Decide.{connected, decideByte, decideFrame}
+use Rattle.boot.specs.declared.Carrier.{Carrier}
+use Rattle.boot.specs.declared.Carrier.the-variants.{Uart, Can}
 use Rattle.boot.specs.declared.Session.{Session}
-use Rattle.boot.proofs.Sound.{uart-expects}
+use Rattle.boot.proofs.Sound.{uart-expects, can-expects}
 
+-- where what a connected session hears can be, so can what any session does
+connected-good : (staged : List ℕ) (c : Carrier) (s : Session) (calls : Bool) {d : Decision}
+    → (T (on c s) → Holds (Good staged) d) → Holds (Good staged) (connected c s calls d)
+unfolding connected
+connected-good staged c s calls f = split (Good staged) (on c s) f (λ o. either (Good staged) _ (told _ tt) (told _ tt))
+
+-- one UART byte
 pub byte-good : (s : Session) (usd : List ℕ) (b : ℕ) → T (sound s) → getD (stagedWith (progress s) (b ∷ [])) 0 0 < 256
     → Holds (Good (stagedWith (progress s) (b ∷ []))) (decideByte s usd b)
-unfolding decideByte connected UC.heard
+unfolding decideByte UC.heard
 byte-good s usd b t h =
-    let g = Good (stagedWith (progress s) (b ∷ [])) in
-    split g (on Uart s)
-    (λ o. either g _ (told _ tt) (complete-good _ h (U.stepOf (s .step)) (s .expected) (uart-expects s t o) (s .address) usd))
-    (λ o. either g _ (told _ tt) (told _ tt))
+    let staged = stagedWith (progress s) (b ∷ []) in
+    connected-good staged Uart s _
+    (λ o. either (Good staged) _ (told _ tt) (complete-good _ h (U.stepOf (s .step)) (s .expected) (uart-expects s t o) (s .address) usd))
+
+-- one CAN frame
+pub frame-good : (s : Session) (usd : List ℕ) (f : Frame) → T (sound s) → getD (carried f) addressBytes 0 < 256
+    → Holds (Good (stagedWith (progress s) (carried f))) (decideFrame s usd f)
+unfolding decideFrame
+frame-good s usd f t h =
+    connected-good (stagedWith (progress s) (carried f)) Can s _
+    (λ o. CG.heard-good (C.stepOf (s .step)) (progress s) (can-expects s t o) usd f h)

@@ -1,6 +1,7 @@
 -- What a sound session says of its numbers.
+use mathlib.Core.Path.{subst}
 use mathlib.Core.Bool.{Bool, true, false, _&&_}
-use Prim.Native.Nat.{_≤_, _<_}
+use Prim.Native.Nat.{ℕ, _≤_, _<_}
 use native.Mathlib.Omega.{arith}
 use lib.Dec.{T, eqb, leb, ltb, ltb→lt, eqb→eq}
 use lib.ListN.{length}
@@ -11,7 +12,7 @@ use Rattle.uart.proofs.Steps as UP
 use Rattle.can.specs.Steps as C
 use Rattle.can.proofs.Steps as CP
 use Rattle.boot.specs.Session.{on, stepSound, sound}
-use Rattle.boot.specs.declared.Carrier.the-variants.{Uart}
+use Rattle.boot.specs.declared.Carrier.the-variants.{Uart, Can}
 use Rattle.boot.specs.declared.Session.{Session}
 
 module _ (s : Session) (t : T (sound s)) where
@@ -29,17 +30,16 @@ module _ (s : Session) (t : T (sound s)) where
       both-right (leb (s .carrier) 3 && leb (s .speed) 3) (stepSound (s .carrier) (s .step) (s .expected))
       (both-left (leb (s .carrier) 3 && leb (s .speed) 3 && stepSound (s .carrier) (s .step) (s .expected)) (ltb (s .taken) (s .expected)) t)
 
-  -- on UART, that is a step of UART
+  -- on UART, that is a step of UART, and on CAN one of CAN
   pub uart-expects : T (on Uart s) → T (U.expects (U.stepOf (s .step)) (s .expected))
-  uart-expects o = by-test (eqb (s .carrier) 1) o sound-step
-    where
-      by-test : (b : Bool) → T b
-          → T (if b then ltb (s .step) (length U.steps) && U.expects (U.stepOf (s .step)) (s .expected)
-          else if eqb (s .carrier) 2 then ltb (s .step) (length C.steps) && C.expects (C.stepOf (s .step)) (s .expected)
-          else eqb (s .step) 0 && eqb (s .expected) 1)
-          → T (U.expects (U.stepOf (s .step)) (s .expected))
-      by-test true o h = both-right (ltb (s .step) 14) (U.expects (U.stepOf (s .step)) (s .expected)) h
-      by-test false o h = absurd o
+  uart-expects o =
+      both-right (ltb (s .step) 14) (U.expects (U.stepOf (s .step)) (s .expected))
+      (subst (λ (c : ℕ). T (stepSound c (s .step) (s .expected))) (eqb→eq (s .carrier) 1 o) sound-step)
+
+  pub can-expects : T (on Can s) → T (C.expects (C.stepOf (s .step)) (s .expected))
+  can-expects o =
+      both-right (ltb (s .step) 4) (C.expects (C.stepOf (s .step)) (s .expected))
+      (subst (λ (c : ℕ). T (stepSound c (s .step) (s .expected))) (eqb→eq (s .carrier) 2 o) sound-step)
 
   -- no more is expected than there are staged bytes
   pub sound-expected : s .expected ≤ 257

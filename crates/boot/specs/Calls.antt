@@ -77,12 +77,15 @@ commandsOf Power = []
 commandsOf (Byte room b) = UC.commandBytes
 commandsOf (Framed room l) = CC.commandBytes
 
+-- the ID that the replies to a frame bear: its own, or while connected to CAN what the step says
+abbrev pub bears : Session → ℕ → ℕ
+bears s id = if on Can s then CC.bears (C.stepOf (s .step)) id else id
+
 -- the messages as the carrier sends them
 unfoldable pub sent : Input → Session → List (List ℕ) → List ℕ
 sent Power s ms = []
 sent (Byte room b) s ms = join ms
-sent (Framed room l) s ms =
-    framed classic (if on Can s then CC.bears (C.stepOf (s .step)) (frameIn l .id) else frameIn l .id) ms
+sent (Framed room l) s ms = framed classic (bears s (frameIn l .id)) ms
 
 -- a decision is carried out
 unfoldable pub perform : Input → State → Decision → Outcome

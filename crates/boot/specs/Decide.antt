@@ -17,12 +17,13 @@ use Rattle.boot.specs.declared.Carrier.{Carrier}
 use Rattle.boot.specs.declared.Carrier.the-variants.{None, Uart, Can}
 use Rattle.boot.specs.declared.Session.{Session}
 
--- a connected session hears its carrier; one that is not connected hears only the call to connect; other input changes nothing
+-- a session that is not connected hears only the call to connect; other input changes nothing
+abbrev pub unconnected : Session → Bool → Decision
+unconnected s calls = if on None s && calls gives answer Ack GoIdle else answer Silence Stay
+
+-- a connected session hears its carrier
 unfoldable pub connected : Carrier → Session → Bool → Decision → Decision
-connected c s calls heard =
-    if on c s gives heard
-    else if on None s && calls gives answer Ack GoIdle
-    else answer Silence Stay
+connected c s calls heard = if on c s gives heard else unconnected s calls
 
 -- one UART byte
 unfoldable pub decideByte : Session → List ℕ → ℕ → Decision

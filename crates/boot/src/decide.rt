@@ -1,42 +1,76 @@
 ghost use mathlib.Core.Path.{_≡_};
 ghost use mathlib.Core.List.{[], _∷_};
+ghost use Prim.Native.Nat.{_≤_};
 ghost use lib.Dec.{T};
 ghost use lib.ListN.{length};
 ghost use Rattle.board.specs.Board.{extentOf};
 ghost use Rattle.board.specs.declared.Region.the-variants.{Usd};
+ghost use Rattle.can.specs.Frames.{classic, frameOf};
 ghost use Rattle.boot.specs.Session.{sound, gathered};
-ghost use Rattle.boot.specs.Decide.{decideByte};
+ghost use Rattle.boot.specs.Decide.{unconnected, decideByte, decideFrame};
 use crate::Carrier;
 use crate::Session;
 use command::Decision;
 use command::Next;
 use command::Reply;
 
-// The byte that asks for a connection.
+// The byte that asks for a connection, and the ID.
 const CONNECT_BYTE: u8 = 0x7F;
 
+const CONNECT_ID: u16 = 0x79;
+
 impl Session {
+    // What is decided on an input whose carrier is not connected: only a call to connect is heard.
+    fn unconnected(self, calls: bool) -> Decision
+        ensures { λ r. ⌜ r ≡ unconnected self calls ⌝ }
+    {
+        let connects = self.on(Carrier::None) & calls;
+        if connects {
+            command::answer(Reply::Ack, Next::GoIdle)
+        } else {
+            command::answer(Reply::Silence, Next::Stay)
+        }
+    }
+
     // What one UART byte decides, given the session with the byte taken.
     pub fn decide_byte(self, byte: u8, taken: Session, usd: &[u8]) -> Decision
         requires { ⌜ T (sound self) × (taken ≡ gathered (byte ∷ []) self) × (length (now usd) ≡ extentOf Usd .bytes) ⌝ }
         ensures { λ r. ⌜ r ≡ decideByte self (now (usd .entry)) byte ⌝ }
     {
-        let here = self.carrier == Carrier::Uart.number();
+        let here = self.on(Carrier::Uart);
         if here {
-            return uart::conversation::heard(
+            uart::conversation::heard(
                 self.step,
                 self.taken,
                 self.expected,
                 self.address,
                 &taken.staged,
                 usd,
-            );
-        }
-        let calls = (self.carrier == Carrier::None.number()) & (byte == CONNECT_BYTE);
-        if calls {
-            command::answer(Reply::Ack, Next::GoIdle)
+            )
         } else {
-            command::answer(Reply::Silence, Next::Stay)
+            self.unconnected(byte == CONNECT_BYTE)
+        }
+    }
+
+    // What one CAN frame decides, given its ID, the data bytes that count, and the session with these taken.
+    pub fn decide_frame(self, id: u16, carried: &[u8], taken: Session, usd: &[u8]) -> Decision
+        requires { ⌜ T (sound self) × (taken ≡ gathered (now carried) self) × (length (now usd) ≡ extentOf Usd .bytes) × (length (now carried) ≤ classic .largest) ⌝ }
+        ensures { λ r. ⌜ r ≡ decideFrame self (now (usd .entry)) (frameOf id (now (carried .entry))) ⌝ }
+    {
+        let here = self.on(Carrier::Can);
+        if here {
+            can::conversation::heard(
+                self.step,
+                self.taken,
+                self.expected,
+                self.address,
+                &taken.staged,
+                usd,
+                id,
+                carried,
+            )
+        } else {
+            self.unconnected(id == CONNECT_ID)
         }
     }
 }

@@ -1,8 +1,9 @@
 ghost use mathlib.Core.Path.{_≡_};
-ghost use mathlib.Core.List.{[], _∷_};
-ghost use Prim.Native.Nat.{_<_, _≤_};
+ghost use Prim.Native.Nat.{min, _+_, _<_, _≤_};
+ghost use lib.ListN.{length, take};
+ghost use Rattle.words.specs.Over.{put};
 ghost use Rattle.memories.specs.Effects.{stagedBytes};
-ghost use Rattle.boot.specs.Session.{idleExpects, entered, idle, running, stepSound, sound, gathered, after};
+ghost use Rattle.boot.specs.Session.{on, idleExpects, entered, idle, running, stepSound, sound, gathered, after};
 ghost use Rattle.boot.specs.Promise.{PoweredOn};
 use crate::Carrier;
 use crate::Session;
@@ -37,6 +38,21 @@ fn step_sound(carrier: u8, step: u8, expected: usize) -> bool
         crate::CAN => (step < can::STEPS) & can::Step::of(step).expects(expected),
         _ => (step == 0) & (expected == RESTING),
     }
+}
+
+// The smaller of two counts.
+fn smaller(a: usize, b: usize) -> usize
+    ensures { λ r. ⌜ r ≡ min a b ⌝ }
+{
+    if a <= b { a } else { b }
+}
+
+// Puts the first n new bytes among the staged ones, from an index on.
+fn stage(staged: &mut [u8; memories::STAGED], at: usize, new: &[u8], n: usize)
+    requires { ⌜ (at + n ≤ stagedBytes) × (n ≤ length (now new)) ⌝ }
+    ensures { λ _. ⌜ now (staged .exit) ≡ put (now (staged .entry)) at (take n (now (new .entry))) ⌝ }
+{
+    words::copy(staged, at, new, 0, n);
 }
 
 impl Session {
@@ -76,6 +92,13 @@ impl Session {
         Session::enter(Carrier::Running, 0, RESTING, address, FRESH_SPEED)
     }
 
+    // Whether the session is on a carrier.
+    pub fn on(self, carrier: Carrier) -> bool
+        ensures { λ r. ⌜ r ≡ on carrier self ⌝ }
+    {
+        self.carrier == carrier.number()
+    }
+
     // Whether the session is sound.
     pub fn sound(self) -> bool
         ensures { λ r. ⌜ r ≡ sound self ⌝ }
@@ -86,14 +109,15 @@ impl Session {
             & (self.taken < self.expected)
     }
 
-    // The session with one byte taken.
-    pub fn gather(mut self, byte: u8) -> Session
+    // The session with new bytes taken, as far as they are expected.
+    pub fn gather(mut self, new: &[u8]) -> Session
         requires { ⌜ (self .taken < self .expected) × (self .expected ≤ stagedBytes) ⌝ }
-        ensures { λ r. ⌜ r ≡ gathered (byte ∷ []) self ⌝ }
+        ensures { λ r. ⌜ r ≡ gathered (now (new .entry)) self ⌝ }
     {
         let at = self.taken;
-        self.staged[at] = byte;
-        self.taken = at + 1;
+        let fit = smaller(self.expected - at, new.len());
+        stage(&mut self.staged, at, new, fit);
+        self.taken = at + fit;
         self
     }
 

@@ -1,22 +1,33 @@
 ghost use mathlib.Core.Path.{_≡_};
-ghost use mathlib.Core.Bool.{true, _&&_};
+ghost use mathlib.Core.Bool.{true};
 ghost use Prim.Native.Nat.{_≤_};
-ghost use lib.Dec.{T, eqb, leb};
+ghost use lib.Dec.{T, leb};
 ghost use lib.ListN.{length};
-ghost use Rattle.board.specs.Board.{extentOf};
-ghost use Rattle.board.specs.declared.Region.the-variants.{Flash, Sram, Usd};
 ghost use Rattle.memories.specs.Memories.{memories, proper};
+ghost use Rattle.memories.specs.Effects.{fits};
 ghost use Rattle.uart.specs.Conversation as UC;
+ghost use Rattle.can.specs.Conversation as CC;
+ghost use Rattle.can.specs.Frames.{classic, isFrame};
 ghost use Rattle.boot.specs.Session.{sound};
-ghost use Rattle.boot.specs.Decide.{decideByte};
-ghost use Rattle.boot.specs.Causes.{accepts, causeOf};
-ghost use Rattle.boot.specs.Calls.{Byte, perform};
-ghost use Rattle.boot.specs.Promise.{left, stateOf, givenByte, Leaves, Took};
+ghost use Rattle.boot.specs.Causes.{accepts, lengthsRight, causeOf};
+ghost use Rattle.boot.specs.Calls.{bears};
+ghost use Rattle.boot.specs.Promise.{left, givenByte, performed, refusedTaken, Performed, Leaves, Took};
 use crate::Carrier;
 use crate::Cause;
 use crate::Session;
 use crate::Taken;
 use board::Board;
+use command::Decision;
+
+// The room that a CAN reply may need.
+const CAN_ROOM: usize = 363;
+
+// Whether flash, SRAM and USD have their lengths.
+fn lengths_right(flash: usize, sram: usize, usd: usize) -> bool
+    ensures { λ r. ⌜ r ≡ lengthsRight flash sram usd ⌝ }
+{
+    (flash == Board::FLASH_BYTES) & (sram == Board::SRAM_BYTES) & (usd == Board::USD_BYTES)
+}
 
 impl Cause {
     // Whether the call is accepted.
@@ -39,7 +50,7 @@ impl Session {
         if !sound {
             return Cause::UnsoundSession;
         }
-        let running = self.carrier == Carrier::Running.number();
+        let running = self.on(Carrier::Running);
         if running {
             Cause::BoardRunning
         } else {
@@ -65,12 +76,71 @@ impl Session {
 
     // Why a byte is refused, if it is, given the lengths of what is lent.
     fn byte_cause(self, flash: usize, sram: usize, usd: usize, room: usize) -> Cause
-        ensures { λ r. ⌜ r ≡ causeOf (eqb flash (extentOf Flash .bytes) && eqb sram (extentOf Sram .bytes) && eqb usd (extentOf Usd .bytes)) (leb UC.uartRoom room) true self ⌝ }
+        ensures { λ r. ⌜ r ≡ causeOf (lengthsRight flash sram usd) (leb UC.uartRoom room) true self ⌝ }
     {
-        let lengths = (flash == Board::FLASH_BYTES)
-            & (sram == Board::SRAM_BYTES)
-            & (usd == Board::USD_BYTES);
-        self.cause(lengths, uart::say::ROOM <= room, true)
+        self.cause(
+            lengths_right(flash, sram, usd),
+            uart::say::ROOM <= room,
+            true,
+        )
+    }
+
+    // Why a frame is refused, if it is, given the lengths of what else is lent.
+    fn frame_cause(self, frame: &[u8], flash: usize, sram: usize, usd: usize, room: usize) -> Cause
+        ensures { λ r. ⌜ r ≡ causeOf (lengthsRight flash sram usd) (leb CC.canRoom room) (isFrame classic (now (frame .entry))) self ⌝ }
+    {
+        self.cause(
+            lengths_right(flash, sram, usd),
+            CAN_ROOM <= room,
+            can::frame::is_frame(frame),
+        )
+    }
+
+    // A refused call gives no reply, and the session stays.
+    fn refused(self, cause: Cause) -> Taken
+        ensures { λ r. ⌜ r ≡ refusedTaken cause self ⌝ }
+    {
+        Taken {
+            number: cause.number(),
+            length: 0,
+            session: self,
+        }
+    }
+
+    // The ID that the replies to a frame bear.
+    fn bears(self, id: u16) -> u16
+        ensures { λ r. ⌜ r ≡ bears self id ⌝ }
+    {
+        let here = self.on(Carrier::Can);
+        if here {
+            can::conversation::bears(self.step, id)
+        } else {
+            id
+        }
+    }
+
+    // A decision is carried out on a carrier after a reply of so many bytes, and the session that follows is handed back.
+    fn perform(
+        self,
+        carrier: Carrier,
+        taken: Session,
+        decision: Decision,
+        length: usize,
+        flash: &mut [u8],
+        sram: &mut [u8],
+        usd: &mut [u8],
+    ) -> Taken
+        requires { ⌜ T (proper (memories (now flash) (now sram) (now usd))) × T (fits (decision .change) (taken .staged)) ⌝ }
+        ensures { λ r. ⌜ Performed carrier self taken decision length (memories (now (flash .entry)) (now (sram .entry)) (now (usd .entry))) r (memories (now (flash .exit)) (now (sram .exit)) (now (usd .exit))) ⌝ }
+    {
+        let change = decision.change;
+        let next = decision.next;
+        memories::carry_out(change, &taken.staged, flash, sram, usd);
+        Taken {
+            number: Cause::Accepted.number(),
+            length: length,
+            session: self.after(carrier, taken, next),
+        }
     }
 
     // A byte that is accepted is decided on, answered and carried out.
@@ -83,21 +153,15 @@ impl Session {
         buffer: &mut [u8],
     ) -> Taken
         requires { ⌜ T (sound self) × T (proper (memories (now flash) (now sram) (now usd))) × (UC.uartRoom ≤ length (now buffer)) ⌝ }
-        ensures { λ r. ⌜ Leaves (perform (Byte (length (now (buffer .entry))) byte) (stateOf self (now (flash .entry)) (now (sram .entry)) (now (usd .entry))) (decideByte self (now (usd .entry)) byte)) (now (buffer .entry)) (left r (now (flash .exit)) (now (sram .exit)) (now (usd .exit)) (now (buffer .exit))) ⌝ }
+        ensures { λ r. ⌜ Leaves (performed (givenByte self byte (now (flash .entry)) (now (sram .entry)) (now (usd .entry)) (now (buffer .entry)))) (now (buffer .entry)) (left r (now (flash .exit)) (now (sram .exit)) (now (usd .exit)) (now (buffer .exit))) ⌝ }
     {
-        let taken = self.gather(byte);
+        let new = [byte];
+        let taken = self.gather(&new);
         words::first(&taken.staged);
         let decision = self.decide_byte(byte, taken, usd);
         let reply = decision.reply;
-        let change = decision.change;
-        let next = decision.next;
         let length = uart::say::say(reply, flash, sram, usd, buffer);
-        memories::carry_out(change, &taken.staged, flash, sram, usd);
-        Taken {
-            number: Cause::Accepted.number(),
-            length: length,
-            session: self.after(Carrier::Uart, taken, next),
-        }
+        self.perform(Carrier::Uart, taken, decision, length, flash, sram, usd)
     }
 
     // Takes one UART byte, with the memories and the reply buffer that are lent.
@@ -116,11 +180,7 @@ impl Session {
         if accepted {
             self.accept_byte(byte, flash, sram, usd, buffer)
         } else {
-            Taken {
-                number: cause.number(),
-                length: 0,
-                session: self,
-            }
+            self.refused(cause)
         }
     }
 }

@@ -1,12 +1,12 @@
 -- Gathering puts bytes only where they are expected: behind the expected ones no staged byte changes, whatever was sent.
-use mathlib.Core.Path.{_≡_}
+use mathlib.Core.Path.{_≡_, ap, sym, _∙_}
 use mathlib.Core.List.{List, [], _∷_}
-use Prim.Native.Nat.{ℕ, _-_, _≤_, _<_}
+use Prim.Native.Nat.{ℕ, zero, suc, min, _-_, _≤_}
+use native.Mathlib.Nat.{zero-min, min-zero, suc-min-suc}
 use native.Mathlib.Omega.{arith}
-use lib.ListN.{getD, set, length-take}
-use lib.Seq.{take-all}
+use lib.ListN.{length, getD, take, length-take}
 use Rattle.words.specs.Over.{newer}
-use Rattle.words.proofs.Over.{over-behind, put-one}
+use Rattle.words.proofs.Over.{over-behind}
 use Rattle.command.specs.Progress.{Progress, fitting, stagedWith}
 
 pub behind-stays : (p : Progress) (new : List ℕ) (i : ℕ) → p .taken ≤ p .expected → p .expected ≤ i
@@ -14,10 +14,14 @@ pub behind-stays : (p : Progress) (new : List ℕ) (i : ℕ) → p .taken ≤ p 
 behind-stays p new i h k =
     over-behind newer (p .staged) (p .taken) (fitting p new) i (rw length-take (omega arith))
 
--- one byte is taken where one is expected
-pub one-fits : (p : Progress) (b : ℕ) → p .taken < p .expected → fitting p (b ∷ []) ≡ b ∷ []
-one-fits p b h = take-all (p .expected - p .taken) (b ∷ []) (omega arith)
-
--- and is stored at index taken
-pub one-staged : (p : Progress) (b : ℕ) → p .taken < p .expected → stagedWith p (b ∷ []) ≡ set (p .staged) (p .taken) b
-one-staged p b h = rw (one-fits p b h) (put-one (p .staged) (p .taken) b)
+-- as many new bytes as are still expected, or as there are, are those that fit
+pub so-many-fit : (p : Progress) (new : List ℕ) (n : ℕ) → n ≡ min (p .expected - p .taken) (length new)
+    → (n ≡ length (fitting p new)) × (take n new ≡ fitting p new)
+so-many-fit p new n e =
+    (e ∙ sym (length-take (p .expected - p .taken) new), ap (λ (k : ℕ). take k new) e ∙ shorter (p .expected - p .taken) new)
+  where
+    shorter : (k : ℕ) (l : List ℕ) → take (min k (length l)) l ≡ take k l
+    shorter zero l = ap (λ (m : ℕ). take m l) (zero-min (length l))
+    shorter (suc k) [] = ap (λ (m : ℕ). take m []) (min-zero (suc k))
+    shorter (suc k) (x ∷ xs) =
+        ap (λ (m : ℕ). take m (x ∷ xs)) (suc-min-suc k (length xs)) ∙ ap (λ (r : List ℕ). x ∷ r) (shorter k xs)

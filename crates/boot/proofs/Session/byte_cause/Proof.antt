@@ -4,4 +4,9 @@ use Rattle.boot.proofs.Session.byte_cause.Statement.{statement}
 use Rattle.boot.proofs.Session.byte_cause.Tie as tie
 
 pub byte-cause-spec : {M : Type 1} → statement M
-byte-cause-spec = tie.close (tie.spec (λ c κs. search needs) (λ c. c .cause .ensures))
+byte-cause-spec =
+    tie.close
+    (tie.spec
+    (λ c κs. search needs)
+    (λ c κs. search needs)
+    (λ c. rw (← (c .before .lengths-right .ensures)) ((c .cause .ensures))))

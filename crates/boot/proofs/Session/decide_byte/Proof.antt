@@ -1,9 +1,8 @@
--- The tests are the rule's, in its order; the bytes that are heard are those of the session with the byte taken.
+-- A connected session hears the byte, with the staged bytes of the session with the byte taken; another hears only the call to connect.
 use borrow.Author.Needs.{needs}
-use native.Mathlib.Omega.{arith}
+use Rattle.command.specs.Decision.{if_gives_else_}
 use native.Mathlib.Omega.{arith}
 use mathlib.Core.Path.{ap}
-use Rattle.command.specs.Decision.{if_gives_else_}
 use Rattle.uart.specs.Conversation as UC
 use Rattle.boot.specs.Decide.{connected, decideByte}
 use Rattle.boot.specs.declared.Session.{Session}
@@ -17,10 +16,7 @@ decide-byte-spec =
     tie.close
     (tie.spec
     (λ c κs. search needs)
-    (λ c κs. (sound-taken (c .before .before .before .before .before .before .before .args .self) (c .before .before .before .before .before .before .before .pre .0), uart-expects (c .before .before .before .before .before .before .before .args .self) (c .before .before .before .before .before .before .before .pre .0) (rw (← c .before .before .before .before .before .number .ensures, c .before .before .before .if1 .taken) tt), omega arith, omega arith))
-    (λ c. rw (rw (c .before .before .before .before .before .before .number .ensures) at (c .before .before .before .before .if1 .taken), ← ap (λ (s : Session). s .staged) (c .before .before .before .before .before .before .before .before .pre .1)) (c .heard .ensures))
+    (λ c κs. (sound-taken (c .before .before .before .before .before .before .args .self) ((c .before .before .before .before .before .before .pre .0)), uart-expects (c .before .before .before .before .before .before .args .self) ((c .before .before .before .before .before .before .pre .0)) (rw (← (c .before .before .before .before .on .ensures), (c .before .before .before .if1 .taken)) tt), omega arith, omega arith))
     (λ c κs. search needs)
-    (λ c κs. search needs)
-    (λ c κs. search needs)
-    (λ c. rw (← c .before .before .before .before .before .before .number .ensures, c .before .before .before .before .if1 .left, ← c .before .before .before .number2 .ensures, c .before .if2 .taken) (c .answer .ensures))
-    (λ c. rw (← c .before .before .before .before .before .before .number .ensures, c .before .before .before .before .if1 .left, ← c .before .before .before .number2 .ensures, c .before .if2 .left) (c .answer2 .ensures)))
+    (λ c. rw (← (c .before .before .before .before .before .on .ensures), (c .before .before .before .before .if1 .taken), ← ap (λ (s : Session). s .staged) ((c .before .before .before .before .before .before .before .pre .1))) ((c .heard .ensures)))
+    (λ c. rw (← (c .before .before .on .ensures), (c .before .if1 .left)) ((c .unconnected .ensures))))

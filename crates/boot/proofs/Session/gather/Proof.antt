@@ -1,8 +1,7 @@
--- The byte that is expected is stored at index taken.
+-- As many bytes as are still expected, or as there are, are put at index taken.
 use borrow.Author.Needs.{needs}
-use native.Mathlib.Omega.{arith}
 use Rattle.boot.specs.Session.{progress}
-use Rattle.command.proofs.Progress.{one-fits, one-staged}
+use Rattle.command.proofs.Progress.{so-many-fit}
 use Rattle.boot.proofs.Session.gather.Statement.{statement}
 use Rattle.boot.proofs.Session.gather.Tie as tie
 
@@ -11,5 +10,7 @@ gather-spec =
     tie.close
     (tie.spec
     (λ c. search needs)
+    (λ c κs. search needs)
+    (λ c κs. search needs)
     (λ c. search needs)
-    (λ c. let s = c .args .t1 in rw (one-staged (progress s) (c .args .byte) (omega arith), one-fits (progress s) (c .args .byte) (omega arith))))
+    (λ c. let f = so-many-fit (progress (c .before .before .before .before .args .t1)) ((c .before .before .before .before .args .new .now)) (c .before .before .smaller .result) (c .before .before .smaller .ensures) in rw ((c .stage .ensures), f .1, f .0)))

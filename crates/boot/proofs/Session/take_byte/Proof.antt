@@ -6,24 +6,24 @@ use lib.Dec.{leb, leb→le}
 use lib.ListN.{length}
 use Rattle.memories.specs.Memories.{memories, proper}
 use Rattle.boot.specs.Causes.{accepts}
-use Rattle.boot.specs.Calls.{causeFor, decide}
+use Rattle.boot.specs.Calls.{causeFor}
 use Rattle.boot.specs.Promise.{givenByte}
-use Rattle.boot.proofs.Causes.{Clear, accepted-clear, accepted-took, refused-took}
+use Rattle.boot.proofs.Causes.{accepted-clear, accepted-took, refused-took}
 use Rattle.boot.proofs.Session.take_byte.Statement.{statement}
 use Rattle.boot.proofs.Session.take_byte.Tie as tie
 
 pub take-byte-spec : {M : Type 1} → statement M
-unfolding causeFor decide
+unfolding causeFor
 take-byte-spec =
     tie.close
     (tie.spec
     (λ c κs. search needs)
     (λ c κs. search needs)
-    (λ c κs. let k = accepted-clear (proper (memories (c .before .before .before .before .before .before .before .before .before .before .before .args .flash .now) (c .before .before .before .before .before .before .before .before .before .before .before .args .sram .now) (c .before .before .before .before .before .before .before .before .before .before .before .args .usd .now))) (leb 257 (length (c .before .before .before .before .before .before .before .before .before .before .before .args .buffer .now))) true (c .before .before .before .before .before .before .before .before .before .before .before .args .self) (ap accepts (sym (c .before .before .before .before .before .before .byte-cause .ensures)) ∙ sym (c .before .before .before .before .before .accepts .ensures) ∙ c .before .before .before .before .if1 .taken) in (k .firm, k .lengths, leb→le 257 (length (c .before .before .before .before .before .before .before .before .before .before .before .args .buffer .now)) (k .enough)))
+    (λ c κs. let k = accepted-clear (proper (memories ((c .before .before .before .before .before .before .before .before .before .before .before .args .flash .now)) ((c .before .before .before .before .before .before .before .before .before .before .before .args .sram .now)) ((c .before .before .before .before .before .before .before .before .before .before .before .args .usd .now)))) (leb 257 (length ((c .before .before .before .before .before .before .before .before .before .before .before .args .buffer .now)))) true (c .before .before .before .before .before .before .before .before .before .before .before .args .self) (ap accepts (sym (c .before .before .before .before .before .before .byte-cause .ensures)) ∙ sym (c .before .before .before .before .before .accepts .ensures) ∙ (c .before .before .before .before .if1 .taken)) in (k .firm, k .lengths, leb→le 257 (length ((c .before .before .before .before .before .before .before .before .before .before .before .args .buffer .now))) (k .enough)))
     (λ c κs. search needs)
     (λ c. search needs)
     (λ c. search needs)
     (λ c. search needs)
     (λ c. search needs)
-    (λ c. accepted-took (givenByte (c .before .before .before .before .before .before .before .before .before .before .before .before .before .before .before .before .before .before .before .before .args .self) (c .before .before .before .before .before .before .before .before .before .before .before .before .before .before .before .before .before .before .before .before .args .byte) (c .before .before .before .before .before .before .before .before .before .before .before .before .before .before .before .before .before .before .before .before .args .flash .now) (c .before .before .before .before .before .before .before .before .before .before .before .before .before .before .before .before .before .before .before .before .args .sram .now) (c .before .before .before .before .before .before .before .before .before .before .before .before .before .before .before .before .before .before .before .before .args .usd .now) (c .before .before .before .before .before .before .before .before .before .before .before .before .before .before .before .before .before .before .before .before .args .buffer .now)) (c .before .before .before .before .before .before .before .before .before .before .before .before .before .before .before .byte-cause .result) (c .before .before .before .before .before .before .before .before .before .before .before .before .before .before .before .byte-cause .ensures) (sym (c .before .before .before .before .before .before .before .before .before .before .before .before .before .before .accepts .ensures) ∙ c .before .before .before .before .before .before .before .before .before .before .before .before .before .if1 .taken) (c .before .before .before .before .before .before .before .before .accept-byte .ensures))
-    (λ c. refused-took (givenByte (c .before .before .before .before .before .before .before .before .args .self) (c .before .before .before .before .before .before .before .before .args .byte) (c .before .before .before .before .before .before .before .before .args .flash .now) (c .before .before .before .before .before .before .before .before .args .sram .now) (c .before .before .before .before .before .before .before .before .args .usd .now) (c .before .before .before .before .before .before .before .before .args .buffer .now)) (c .before .before .before .byte-cause .result) (c .before .before .before .byte-cause .ensures) (sym (c .before .before .accepts .ensures) ∙ c .before .if1 .left) (c .number .ensures)))
+    (λ c. accepted-took (givenByte (c .before .before .before .before .before .before .before .before .before .before .before .before .before .before .before .before .before .before .before .before .args .self) (c .before .before .before .before .before .before .before .before .before .before .before .before .before .before .before .before .before .before .before .before .args .byte) ((c .before .before .before .before .before .before .before .before .before .before .before .before .before .before .before .before .before .before .before .before .args .flash .now)) ((c .before .before .before .before .before .before .before .before .before .before .before .before .before .before .before .before .before .before .before .before .args .sram .now)) ((c .before .before .before .before .before .before .before .before .before .before .before .before .before .before .before .before .before .before .before .before .args .usd .now)) ((c .before .before .before .before .before .before .before .before .before .before .before .before .before .before .before .before .before .before .before .before .args .buffer .now))) (c .before .before .before .before .before .before .before .before .before .before .before .before .before .before .before .byte-cause .result) (c .before .before .before .before .before .before .before .before .before .before .before .before .before .before .before .byte-cause .ensures) (sym (c .before .before .before .before .before .before .before .before .before .before .before .before .before .before .accepts .ensures) ∙ (c .before .before .before .before .before .before .before .before .before .before .before .before .before .if1 .taken)) (c .before .before .before .before .before .before .before .before .accept-byte .ensures))
+    (λ c. refused-took (givenByte (c .before .before .before .before .before .before .before .before .args .self) (c .before .before .before .before .before .before .before .before .args .byte) ((c .before .before .before .before .before .before .before .before .args .flash .now)) ((c .before .before .before .before .before .before .before .before .args .sram .now)) ((c .before .before .before .before .before .before .before .before .args .usd .now)) ((c .before .before .before .before .before .before .before .before .args .buffer .now))) (c .before .before .before .byte-cause .result) (c .before .before .before .byte-cause .ensures) (sym (c .before .before .accepts .ensures) ∙ (c .before .if1 .left)) (c .refused .ensures)))
