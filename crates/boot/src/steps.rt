@@ -1,5 +1,5 @@
 ghost use mathlib.Core.Path.{_≡_};
-ghost use Prim.Native.Nat.{min, _+_, _<_, _≤_};
+ghost use Prim.Native.Nat.{_+_, _<_, _≤_};
 ghost use lib.ListN.{length, take};
 ghost use Rattle.words.specs.Over.{put};
 ghost use Rattle.memories.specs.Effects.{stagedBytes};
@@ -38,13 +38,6 @@ fn step_sound(carrier: u8, step: u8, expected: usize) -> bool
         crate::CAN => (step < can::STEPS) & can::Step::of(step).expects(expected),
         _ => (step == 0) & (expected == RESTING),
     }
-}
-
-// The smaller of two counts.
-fn smaller(a: usize, b: usize) -> usize
-    ensures { λ r. ⌜ r ≡ min a b ⌝ }
-{
-    if a <= b { a } else { b }
 }
 
 // Puts the first n new bytes among the staged ones, from an index on.
@@ -115,7 +108,7 @@ impl Session {
         ensures { λ r. ⌜ r ≡ gathered (now (new .entry)) self ⌝ }
     {
         let at = self.taken;
-        let fit = smaller(self.expected - at, new.len());
+        let fit = words::least(self.expected - at, new.len());
         stage(&mut self.staged, at, new, fit);
         self.taken = at + fit;
         self

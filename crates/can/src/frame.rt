@@ -4,15 +4,11 @@ ghost use lib.Dec.{T};
 ghost use lib.ListN.{length, getD};
 ghost use Rattle.board.specs.Quantities.{addressBytes};
 ghost use Rattle.can.specs.Frames.{classic, headBytes, frameIn, isFrame, carried};
-
-// The bytes before the data: ID (two bytes, high first) and DLC.
-pub const HEAD: usize = 3;
+use crate::say::CLASSIC;
+use crate::say::HEAD;
 
 // Where the DLC stands.
 const DLC_PLACE: usize = 2;
-
-// The most data bytes that a frame carries.
-pub const LARGEST: usize = 8;
 
 // The largest ID.
 const LARGEST_ID: u16 = 0x7FF;
@@ -37,8 +33,8 @@ pub fn dlc(frame: &[u8]) -> usize
 pub fn is_frame(frame: &[u8]) -> bool
     ensures { λ r. ⌜ r ≡ isFrame classic (now (frame .entry)) ⌝ }
 {
-    if frame.len() == HEAD + LARGEST {
-        (id(frame) <= LARGEST_ID) & (dlc(frame) <= LARGEST)
+    if frame.len() == HEAD + CLASSIC {
+        (id(frame) <= LARGEST_ID) & (dlc(frame) <= CLASSIC)
     } else {
         false
     }

@@ -13,4 +13,4 @@ gather-spec =
     (λ c κs. search needs)
     (λ c κs. search needs)
     (λ c. search needs)
-    (λ c. let f = so-many-fit (progress (c .before .before .before .before .args .t1)) ((c .before .before .before .before .args .new .now)) (c .before .before .smaller .result) (c .before .before .smaller .ensures) in rw ((c .stage .ensures), f .1, f .0)))
+    (λ c. let f = so-many-fit (progress (c .before .before .before .before .args .t1)) ((c .before .before .before .before .args .new .now)) (c .before .before .least .result) (c .before .before .least .ensures) in rw ((c .stage .ensures), f .1, f .0)))

@@ -4,7 +4,8 @@ use native.Mathlib.Omega.{arith}
 use mathlib.Core.Path.{_≡_, refl}
 use Prim.Native.Nat.{_+_, _-_}
 use Rattle.can.specs.Frames.{frameIn}
-use Rattle.can.proofs.Frames.{frame-length, frame-dlc, carried-below}
+use Rattle.can.proofs.Good.{carried-byte}
+use Rattle.can.proofs.Frames.{frame-length, frame-dlc}
 use Rattle.can.proofs.frame.carried.Statement.{statement}
 use Rattle.can.proofs.frame.carried.Tie as tie
 
@@ -17,4 +18,4 @@ carried-spec =
     (λ c. search needs)
     (λ c. search needs)
     (λ c. omega (arith, frame-length ((c .before .before .args .frame .now)) (c .before .before .pre), frame-dlc ((c .before .before .args .frame .now)) (c .before .before .pre), (c .dlc .ensures)))
-    (λ c. let e : 3 + (c .before .dlc .result) - 3 ≡ frameIn ((c .before .before .before .args .frame .now)) .dlc = omega (arith, (c .before .dlc .ensures)) in rw e (refl, carried-below ((c .before .before .before .args .frame .now)) (c .before .before .before .pre) (omega (arith, (c .before .before .shared-slice-known .given) 7)))))
+    (λ c. let e : 3 + (c .before .dlc .result) - 3 ≡ frameIn ((c .before .before .before .args .frame .now)) .dlc = omega (arith, (c .before .dlc .ensures)) in rw e (refl, carried-byte (c .before .before .before .args .frame .now) (λ i. omega (arith, c .before .before .shared-slice-known .given i)))))
