@@ -79,10 +79,13 @@ frame-can room l s usd t et d ed k h =
 
 -- a frame decides what its ID and the data bytes that count do
 pub frame-decided : (s : Session) (usd l : List ℕ) → T (isFrame classic l)
-    → decideFrame s usd (frameOf (frameIn l .id) (carried (frameIn l))) ≡ decideFrame s usd (frameIn l)
+    → {id : ℕ} {c : List ℕ} {d : Decision} → id ≡ frameIn l .id → c ≡ carried (frameIn l) → d ≡ decideFrame s usd (frameOf id c)
+    → d ≡ decideFrame s usd (frameIn l)
 unfolding decideFrame CC.heard
-frame-decided s usd l t =
-    ap (λ (c : List ℕ). hears c (frameOf (frameIn l .id) (carried (frameIn l)) .dlc) c) (take-length (carried (frameIn l)))
+frame-decided s usd l t {c = c} ei ec ed =
+    ed ∙ ap (λ (n : ℕ). decideFrame s usd (frameOf n c)) ei
+    ∙ ap (λ (b : List ℕ). decideFrame s usd (frameOf (frameIn l .id) b)) ec
+    ∙ ap (λ (b : List ℕ). hears b (length (carried (frameIn l))) b) (take-length (carried (frameIn l)))
     ∙ ap (λ (n : ℕ). hears (carried (frameIn l)) n (carried (frameIn l))) (carried-length l t)
   where
     hears : List ℕ → ℕ → List ℕ → Decision

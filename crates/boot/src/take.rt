@@ -11,16 +11,13 @@ ghost use Rattle.can.specs.Frames.{classic, isFrame};
 ghost use Rattle.boot.specs.Session.{sound};
 ghost use Rattle.boot.specs.Causes.{accepts, lengthsRight, causeOf};
 ghost use Rattle.boot.specs.Calls.{bears};
-ghost use Rattle.boot.specs.Promise.{left, givenByte, performed, refusedTaken, Performed, Leaves, Took};
+ghost use Rattle.boot.specs.Promise.{left, givenByte, givenFrame, performed, refusedTaken, Performed, Leaves, Took};
 use crate::Carrier;
 use crate::Cause;
 use crate::Session;
 use crate::Taken;
 use board::Board;
 use command::Decision;
-
-// The room that a CAN reply may need.
-const CAN_ROOM: usize = 363;
 
 // Whether flash, SRAM and USD have their lengths.
 fn lengths_right(flash: usize, sram: usize, usd: usize) -> bool
@@ -91,7 +88,7 @@ impl Session {
     {
         self.cause(
             lengths_right(flash, sram, usd),
-            CAN_ROOM <= room,
+            can::say::ROOM <= room,
             can::frame::is_frame(frame),
         )
     }
@@ -164,6 +161,27 @@ impl Session {
         self.perform(Carrier::Uart, taken, decision, length, flash, sram, usd)
     }
 
+    // A frame that is accepted is decided on, answered and carried out.
+    fn accept_frame(
+        self,
+        frame: &[u8],
+        flash: &mut [u8],
+        sram: &mut [u8],
+        usd: &mut [u8],
+        buffer: &mut [u8],
+    ) -> Taken
+        requires { ⌜ T (sound self) × T (proper (memories (now flash) (now sram) (now usd))) × (CC.canRoom ≤ length (now buffer)) × T (isFrame classic (now frame)) ⌝ }
+        ensures { λ r. ⌜ Leaves (performed (givenFrame self (now (frame .entry)) (now (flash .entry)) (now (sram .entry)) (now (usd .entry)) (now (buffer .entry)))) (now (buffer .entry)) (left r (now (flash .exit)) (now (sram .exit)) (now (usd .exit)) (now (buffer .exit))) ⌝ }
+    {
+        let id = can::frame::id(frame);
+        let carried = can::frame::carried(frame);
+        let taken = self.gather(carried);
+        let decision = self.decide_frame(id, carried, taken, usd);
+        let reply = decision.reply;
+        let length = can::say::say(reply, self.bears(id), flash, sram, usd, buffer);
+        self.perform(Carrier::Can, taken, decision, length, flash, sram, usd)
+    }
+
     // Takes one UART byte, with the memories and the reply buffer that are lent.
     pub fn take_byte(
         self,
@@ -179,6 +197,26 @@ impl Session {
         let accepted = cause.accepts();
         if accepted {
             self.accept_byte(byte, flash, sram, usd, buffer)
+        } else {
+            self.refused(cause)
+        }
+    }
+
+    // Takes one CAN frame, with the memories and the reply buffer that are lent.
+    pub fn take_frame(
+        self,
+        frame: &[u8],
+        flash: &mut [u8],
+        sram: &mut [u8],
+        usd: &mut [u8],
+        buffer: &mut [u8],
+    ) -> Taken
+        ensures { λ r. ⌜ Took (givenFrame self (now (frame .entry)) (now (flash .entry)) (now (sram .entry)) (now (usd .entry)) (now (buffer .entry))) (left r (now (flash .exit)) (now (sram .exit)) (now (usd .exit)) (now (buffer .exit))) ⌝ }
+    {
+        let cause = self.frame_cause(frame, flash.len(), sram.len(), usd.len(), buffer.len());
+        let accepted = cause.accepts();
+        if accepted {
+            self.accept_frame(frame, flash, sram, usd, buffer)
         } else {
             self.refused(cause)
         }
