@@ -13,7 +13,7 @@ use crate::reply::{Reply, ACK, NACK};
 use crate::session::{CanStep, Next, Session, Step, HIGHEST_SPEED};
 
 /// The ID of the frame that connects CAN.
-const CONNECT_ID: u16 = 0x79;
+pub const CONNECT_ID: u16 = 0x79;
 
 /// Reply frames that all bear one ID.
 struct Frames<'r, 'b> {
@@ -71,7 +71,7 @@ pub fn take_frame(
 }
 
 /// The ID of the command that a gathering step stands for.
-fn running_id(step: CanStep) -> Option<u16> {
+pub fn running_id(step: CanStep) -> Option<u16> {
     match step {
         CanStep::Idle => None,
         CanStep::WriteData => Some(WRITE_MEMORY),
@@ -81,7 +81,7 @@ fn running_id(step: CanStep) -> Option<u16> {
 }
 
 /// The DLC that a command must have, if it needs one.
-fn needed_dlc(command: u16) -> Option<usize> {
+pub fn needed_dlc(command: u16) -> Option<usize> {
     match command {
         READ_MEMORY | WRITE_MEMORY => Some(5),
         JUMP => Some(4),

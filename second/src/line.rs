@@ -12,7 +12,7 @@ pub const BYTE_FIELD: usize = 3;
 pub const LINE_BYTES: usize = LINE_CHARACTERS / BYTE_FIELD;
 
 /// The characters of an ID field: a space and three hex digits.
-const ID_FIELD: usize = 4;
+pub const ID_FIELD: usize = 4;
 
 /// A well-formed line.
 #[derive(Clone, Copy, Debug, PartialEq, Eq)]

@@ -1,15 +1,20 @@
 //! Random scripts for `desk`: a host talks to a board of its own, aiming at every rule, and its
 //! lines are then run under watch to see what they reach.
 
+mod asked;
 mod call;
 mod coverage;
 mod deck;
 mod dice;
 mod flaws;
+mod frames;
+mod gathering;
 mod goals;
 mod host;
+mod kind;
 mod looks;
 mod messages;
+mod noise;
 mod own_board;
 mod pen;
 mod places;
@@ -20,6 +25,7 @@ mod talk;
 mod watch;
 
 pub use coverage::Coverage;
+pub use kind::Kind;
 pub use pen::{Answer, Written};
 
 use deck::Deck;
@@ -28,19 +34,22 @@ use host::Host;
 /// A script: its lines, each with what the host's own board answered.
 #[derive(Clone, Debug, PartialEq, Eq)]
 pub struct Script {
+    /// The kind of script.
+    pub kind: Kind,
     /// The lines.
     pub lines: Vec<Written>,
 }
 
 impl Script {
-    /// The UART script of a seed, with so many lines.
-    pub fn of_uart(seed: u64, count: usize) -> Script {
-        let mut host = Host::seeded(seed);
-        let mut deck = Deck::for_uart(&mut host);
+    /// The script of a kind and a seed, with so many lines.
+    pub fn random(kind: Kind, seed: u64, count: usize) -> Script {
+        let mut host = Host::seeded(kind, seed);
+        let mut deck = Deck::shuffled(kind, &mut host);
         while host.count() < count {
             deck.deal(&mut host);
         }
         Script {
+            kind,
             lines: host.into_lines(count),
         }
     }
@@ -57,7 +66,7 @@ impl Script {
 
     /// What the script reaches.
     pub fn coverage(&self) -> Coverage {
-        let mut coverage = Coverage::of_uart();
+        let mut coverage = Coverage::of(self.kind);
         watch::watch(&self.text(), &mut coverage);
         coverage
     }

@@ -1,19 +1,20 @@
 //! The program `script`: prints a random script for `desk`, and what it reaches on standard error.
 
-use second::script::Script;
+use second::script::{Kind, Script};
 use std::env;
 use std::io::{self, Write};
 use std::process::ExitCode;
 
 /// What is wanted of the program.
 struct Wanted {
+    kind: Kind,
     seed: u64,
     lines: usize,
     covered: bool,
 }
 
 /// How the program is run.
-const USAGE: &str = "script uart SEED LINES [covered]";
+const USAGE: &str = "script uart|mixed SEED LINES [covered]";
 
 /// The exit status of a run with other words.
 const MISUSED: u8 = 2;
@@ -21,12 +22,13 @@ const MISUSED: u8 = 2;
 /// Reads the words behind the program's name.
 fn wanted(words: &[String]) -> Option<Wanted> {
     let words: Vec<&str> = words.iter().map(String::as_str).collect();
-    let (seed, lines, covered) = match words[..] {
-        ["uart", seed, lines] => (seed, lines, false),
-        ["uart", seed, lines, "covered"] => (seed, lines, true),
+    let (kind, seed, lines, covered) = match words[..] {
+        [kind, seed, lines] => (kind, seed, lines, false),
+        [kind, seed, lines, "covered"] => (kind, seed, lines, true),
         _ => return None,
     };
     Some(Wanted {
+        kind: Kind::named(kind)?,
         seed: seed.parse().ok()?,
         lines: lines.parse().ok()?,
         covered,
@@ -35,7 +37,7 @@ fn wanted(words: &[String]) -> Option<Wanted> {
 
 /// Prints the script and its coverage; with `covered`, a point not reached is a failure.
 fn print(wanted: &Wanted) -> io::Result<ExitCode> {
-    let script = Script::of_uart(wanted.seed, wanted.lines);
+    let script = Script::random(wanted.kind, wanted.seed, wanted.lines);
     let coverage = script.coverage();
     io::stdout().write_all(&script.text())?;
     io::stderr().write_all(coverage.to_string().as_bytes())?;

@@ -1,46 +1,26 @@
 //! One call as it is seen from outside: what it asked, what was decided, what it changed.
 
-use super::places::Range;
+use super::asked::Asked;
+use super::kind::Carrier;
 use crate::calls::{Cause, Taken};
-use crate::commands::count_sent_as_one_less;
 use crate::memories::Store;
 use crate::refused::Refused;
-use crate::session::{Session, Step, UartStep};
+use crate::session::{CanStep, Session, Step, UartStep};
 
-/// What an ended step asked of the board.
-#[derive(Clone, Debug, PartialEq, Eq)]
-pub enum Asked {
-    /// A command.
-    Command(u16),
-    /// A count of what is to follow.
-    Count(usize),
-    /// A read from an address, its length not known yet.
-    ReadFrom(u32),
-    /// A write from an address, its length not known yet.
-    WriteFrom(u32),
-    /// A CRC from an address, its count not known yet.
-    CrcFrom(u32),
-    /// A read.
-    Read(Range),
-    /// A jump.
-    Jump(u32),
-    /// A write of data.
-    Write(Range, Vec<u8>),
-    /// What an erase selector names.
-    Selector(u16),
-    /// An erase by a special selector.
-    EraseSpecial(u16),
-    /// An erase of numbered sectors.
-    EraseList(Vec<u16>),
-    /// A protection of indexed sectors.
-    Protect(Vec<u8>),
-    /// A CRC of so many sectors from an address on.
-    Crc(u32, usize),
+/// What a call was given.
+#[derive(Clone, Copy, Debug, PartialEq, Eq)]
+pub enum Input<'i> {
+    /// A UART byte.
+    Byte(u8),
+    /// A CAN frame with this ID, which may be over 0x7FF, and these data bytes.
+    Frame(u16, &'i [u8]),
 }
 
 /// A call, with the session and the memories before and after it.
 #[derive(Debug)]
 pub struct Call<'c> {
+    /// What it was given.
+    pub input: Input<'c>,
     /// The session before.
     pub before: &'c Session,
     /// The session after.
@@ -52,20 +32,47 @@ pub struct Call<'c> {
     /// What the call gave.
     pub called: Result<Taken, Cause>,
     /// The step that the call ended, and all bytes that it had taken.
-    pub ended: Option<(UartStep, Vec<u8>)>,
+    pub ended: Option<(Step, Vec<u8>)>,
     /// What the ended step asked.
     pub asked: Option<Asked>,
 }
 
 impl Call<'_> {
+    /// The carrier of the input.
+    pub fn carrier(&self) -> Carrier {
+        match self.input {
+            Input::Byte(_) => Carrier::Uart,
+            Input::Frame(..) => Carrier::Can,
+        }
+    }
+
+    /// The ID and the DLC of a frame, both 0 for a byte.
+    pub fn id_and_dlc(&self) -> (u16, usize) {
+        match self.input {
+            Input::Byte(_) => (0, 0),
+            Input::Frame(id, data) => (id, data.len()),
+        }
+    }
+
     /// The rule that refused a command, if one did.
     pub fn refused(&self) -> Option<Refused> {
         self.called.ok().and_then(|taken| taken.refused)
     }
 
     /// Tells whether this step was ended.
-    pub fn ends(&self, step: UartStep) -> bool {
+    pub fn ends(&self, step: Step) -> bool {
         self.ended.as_ref().is_some_and(|(ended, _)| *ended == step)
+    }
+
+    /// The command, if the call ended an idle step.
+    pub fn command(&self) -> Option<u16> {
+        match (self.input, &self.ended) {
+            (Input::Byte(_), Some((Step::Uart(UartStep::Idle), bytes))) => {
+                Some(u16::from(bytes[0]))
+            }
+            (Input::Frame(id, _), Some((Step::Can(CanStep::Idle), _))) => Some(id),
+            _ => None,
+        }
     }
 
     /// What the ended step asked, if it was accepted.
@@ -89,48 +96,21 @@ impl Call<'_> {
     }
 }
 
-/// The UART step that this byte ends, with all its bytes, if it ends one.
-pub fn ended_by(byte: u8, before: &Session) -> Option<(UartStep, Vec<u8>)> {
-    let Some(Step::Uart(step)) = before.sound_step() else {
-        return None;
-    };
-    let mut bytes = before.staged[..before.taken].to_vec();
-    bytes.push(byte);
-    (bytes.len() == before.expected).then_some((step, bytes))
-}
-
-/// What a UART step asks that has taken all its bytes.
-pub fn asked_by(step: UartStep, bytes: &[u8], address: u32) -> Asked {
-    let items = &bytes[..bytes.len() - 1];
-    match step {
-        UartStep::Idle => Asked::Command(u16::from(bytes[0])),
-        UartStep::ReadAddress => Asked::ReadFrom(number(items)),
-        UartStep::JumpAddress => Asked::Jump(number(items)),
-        UartStep::WriteAddress => Asked::WriteFrom(number(items)),
-        UartStep::CrcAddress => Asked::CrcFrom(number(items)),
-        UartStep::WriteLength | UartStep::ProtectLength => {
-            Asked::Count(count_sent_as_one_less(bytes[0]))
+/// The step that an accepted call ended, with all bytes that it had taken.
+pub fn ended_by(input: Input, before: &Session, after: &Session) -> Option<(Step, Vec<u8>)> {
+    let step = before.sound_step()?;
+    let taken = &before.staged[..before.taken];
+    match (step, input) {
+        (Step::Uart(_), Input::Byte(byte)) => {
+            let bytes = [taken, &[byte]].concat();
+            (bytes.len() == before.expected).then_some((step, bytes))
         }
-        UartStep::ReadLength => Asked::Read(Range::of(address, count_sent_as_one_less(bytes[0]))),
-        UartStep::WriteData => Asked::Write(Range::of(address, items.len()), items.to_vec()),
-        UartStep::EraseSelector => Asked::Selector(number(bytes) as u16),
-        UartStep::SpecialCheck => Asked::EraseSpecial(address as u16),
-        UartStep::EraseList => Asked::EraseList(numbers(items)),
-        UartStep::ProtectList => Asked::Protect(items.to_vec()),
-        UartStep::CrcCount => Asked::Crc(address, number(items) as usize + 1),
+        (Step::Can(CanStep::Idle), Input::Frame(_, data)) => Some((step, data.to_vec())),
+        (Step::Can(_), Input::Frame(_, data)) => {
+            let mut bytes = [taken, data].concat();
+            bytes.truncate(before.expected);
+            (after.sound_step() != Some(step)).then_some((step, bytes))
+        }
+        _ => None,
     }
-}
-
-/// The number that bytes are, high first.
-fn number(bytes: &[u8]) -> u32 {
-    bytes
-        .iter()
-        .fold(0, |number, byte| number << 8 | u32::from(*byte))
-}
-
-/// The two-byte numbers of a list, high first.
-fn numbers(list: &[u8]) -> Vec<u16> {
-    list.chunks_exact(2)
-        .map(|pair| number(pair) as u16)
-        .collect()
 }

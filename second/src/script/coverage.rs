@@ -1,5 +1,6 @@
 //! How often a script reaches each point.
 
+use super::kind::Kind;
 use super::point::{Point, Sight};
 use super::points;
 use std::fmt;
@@ -10,9 +11,9 @@ pub struct Coverage {
 }
 
 impl Coverage {
-    /// The points of a UART script, none reached.
-    pub fn of_uart() -> Coverage {
-        let counted = points::of_uart().into_iter().map(|point| (point, 0));
+    /// The points of a kind of script, none reached.
+    pub fn of(kind: Kind) -> Coverage {
+        let counted = points::of(kind).into_iter().map(|point| (point, 0));
         Coverage {
             counted: counted.collect(),
         }

@@ -2,6 +2,7 @@
 
 use super::goals;
 use super::host::Host;
+use super::kind::{Carrier, Kind};
 
 /// The weight of a goal that is worth aiming at again and again.
 pub const OFTEN: usize = 8;
@@ -15,20 +16,30 @@ pub const SELDOM: usize = 1;
 /// What a host does to reach a goal.
 type Aim = Box<dyn Fn(&mut Host)>;
 
+/// A goal: how often it is aimed at beside the others, on which carrier, and how.
+struct Goal {
+    weight: usize,
+    carrier: Carrier,
+    aim: Aim,
+}
+
 /// The goals, and those not dealt yet.
 pub struct Deck {
-    goals: Vec<(usize, Aim)>,
+    /// The carrier of the goals that are added now.
+    pub carrier: Carrier,
+    goals: Vec<Goal>,
     left: Vec<usize>,
 }
 
 impl Deck {
-    /// The goals of a UART script, none dealt.
-    pub fn for_uart(host: &mut Host) -> Deck {
+    /// The goals of a kind of script, none dealt.
+    pub fn shuffled(kind: Kind, host: &mut Host) -> Deck {
         let mut deck = Deck {
+            carrier: Carrier::Uart,
             goals: Vec::new(),
             left: Vec::new(),
         };
-        goals::add_uart(&mut deck);
+        goals::add(kind, &mut deck);
         deck.left = (0..deck.goals.len()).collect();
         host.dice.shuffle(&mut deck.left);
         deck
@@ -36,22 +47,28 @@ impl Deck {
 
     /// Adds a goal.
     pub fn add(&mut self, weight: usize, aim: impl Fn(&mut Host) + 'static) {
-        self.goals.push((weight, Box::new(aim)));
+        self.goals.push(Goal {
+            weight,
+            carrier: self.carrier,
+            aim: Box::new(aim),
+        });
     }
 
     /// Has the host aim at the next goal.
     pub fn deal(&mut self, host: &mut Host) {
         let next = self.left.pop().unwrap_or_else(|| self.weighted(host));
-        (self.goals[next].1)(host);
+        let goal = &self.goals[next];
+        host.carrier = goal.carrier;
+        (goal.aim)(host);
     }
 
     /// Any goal, the heavier the likelier.
     fn weighted(&self, host: &mut Host) -> usize {
-        let all = self.goals.iter().map(|(weight, _)| weight).sum();
+        let all = self.goals.iter().map(|goal| goal.weight).sum();
         let mut left = host.dice.below(all);
-        let falls_on = |(weight, _): &(usize, Aim)| {
-            let falls = left < *weight;
-            left = left.saturating_sub(*weight);
+        let falls_on = |goal: &Goal| {
+            let falls = left < goal.weight;
+            left = left.saturating_sub(goal.weight);
             falls
         };
         self.goals.iter().position(falls_on).unwrap_or(0)

@@ -5,8 +5,11 @@ mod checks;
 mod commands;
 mod crcs;
 mod erases;
+mod frames;
+mod gathering;
 mod jumps;
 mod lines;
+mod mixing;
 mod protects;
 mod reads;
 mod sessions;
@@ -14,10 +17,23 @@ mod usd_writes;
 mod writes;
 
 use super::deck::Deck;
+use super::kind::{Carrier, Kind};
 
-/// Adds the goals of a UART script.
-pub fn add_uart(deck: &mut Deck) {
-    commands::add(deck);
+/// Adds the goals of a kind of script.
+pub fn add(kind: Kind, deck: &mut Deck) {
+    for carrier in kind.carriers() {
+        deck.carrier = *carrier;
+        add_carrier(*carrier, deck);
+    }
+    if kind == Kind::Mixed {
+        mixing::add(deck);
+    }
+    lines::add(kind, deck);
+}
+
+/// Adds the goals of a carrier: those that both have, and its own.
+fn add_carrier(carrier: Carrier, deck: &mut Deck) {
+    commands::add(carrier, deck);
     reads::add(deck);
     jumps::add(deck);
     writes::add(deck);
@@ -26,7 +42,12 @@ pub fn add_uart(deck: &mut Deck) {
     protects::add(deck);
     access::add(deck);
     crcs::add(deck);
-    checks::add(deck);
-    sessions::add(deck);
-    lines::add(deck);
+    match carrier {
+        Carrier::Uart => checks::add(deck),
+        Carrier::Can => {
+            frames::add(deck);
+            gathering::add(deck);
+        }
+    }
+    sessions::add(carrier, deck);
 }

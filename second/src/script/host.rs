@@ -2,24 +2,19 @@
 
 use super::dice::Dice;
 use super::flaws::Flaw;
+use super::kind::{Carrier, Kind};
 use super::own_board::OwnBoard;
-use super::pen::{Pen, Written};
+use super::pen::{can_line, Pen, Written};
 use crate::session::Step;
 
 /// One command in so many is followed by the next on the same line.
 const JOINED: usize = 7;
-
-/// One line in so many is followed by one that is no line.
-const SPOILED: usize = 14;
 
 /// A step that expects more than this is long.
 const LONG_STEP: usize = 16;
 
 /// One byte in so many of a long step ends its line.
 const LONG_STEP_BREAKS: usize = 100;
-
-/// The letters of the lines that a host writes.
-const LETTERS: &[u8] = b"UP";
 
 /// Where a host ends the lines of a command.
 #[derive(Clone, Copy, Debug, PartialEq, Eq)]
@@ -52,28 +47,38 @@ pub struct Host {
     pub dice: Dice,
     /// The board that it talks to.
     pub board: OwnBoard,
-    pen: Pen,
+    /// The carrier that it talks on.
+    pub carrier: Carrier,
+    kind: Kind,
+    pub(super) pen: Pen,
+    pub(super) flaws: Vec<(Flaw, u8)>,
     mood: Mood,
     joining: bool,
-    flaws: Vec<(Flaw, u8)>,
 }
 
 impl Host {
-    /// A host before a fresh board, with nothing written.
-    pub fn seeded(seed: u64) -> Host {
+    /// A host before a fresh board, with nothing written of a script of this kind.
+    pub fn seeded(kind: Kind, seed: u64) -> Host {
         Host {
             dice: Dice::seeded(seed),
             board: OwnBoard::fresh(),
+            carrier: Carrier::Uart,
+            kind,
             pen: Pen::default(),
+            flaws: Flaw::all(kind.letters()),
             mood: Mood::Whole,
             joining: false,
-            flaws: Flaw::all(LETTERS),
         }
     }
 
     /// The number of lines written.
     pub fn count(&self) -> usize {
         self.pen.count()
+    }
+
+    /// Tells whether the script is a mixed one.
+    pub fn is_mixed(&self) -> bool {
+        self.kind == Kind::Mixed
     }
 
     /// The bytes that the open line still has room for.
@@ -142,26 +147,28 @@ impl Host {
         self.pen.power_on();
     }
 
-    /// Ends the open line, and now and then repeats it spoiled.
+    /// Sends a frame, whatever its ID.
+    pub fn send(&mut self, id: u16, data: &[u8]) {
+        self.end_line();
+        self.write_frame(id, data);
+        self.follow(&can_line(id, data));
+    }
+
+    /// Ends the open line.
     pub fn end_line(&mut self) {
-        let Some(good) = self.pen.end_line().map(<[u8]>::to_vec) else {
-            return;
-        };
-        if self.dice.once_in(SPOILED) {
-            let (flaw, letter) = self.dice.one_of(&self.flaws);
-            self.write_spoiled(flaw, letter, &good);
+        if let Some(good) = self.pen.end_line().map(<[u8]>::to_vec) {
+            self.follow(&good);
         }
     }
 
-    /// Writes a line that is no line, made of a good `U` line or of `P`.
-    pub fn write_spoiled(&mut self, flaw: Flaw, letter: u8, good: &[u8]) {
-        let good = if letter == b'P' { b"P" } else { good };
-        let spoiled = flaw.spoil(good, &mut self.dice);
-        self.pen.no_line(spoiled);
+    /// Gives the board a frame and writes its line.
+    pub(super) fn write_frame(&mut self, id: u16, data: &[u8]) {
+        let called = self.board.take_frame(id, data);
+        self.pen.frame(id, data, self.board.replied(called));
     }
 
     /// Says one byte, on a new line if the open one is full.
-    fn say_byte(&mut self, byte: u8) {
+    pub(super) fn say_byte(&mut self, byte: u8) {
         if self.room() == 0 {
             self.end_line();
         }

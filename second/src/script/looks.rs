@@ -7,15 +7,28 @@ use crate::board::{Region, ERASED, FLASH, SECTORS, USD};
 /// One time in so many a host does not look.
 const LOOKS_AWAY: usize = 5;
 
+/// One look in so many is on the other carrier.
+const CHANGES_CARRIER: usize = 4;
+
 /// The most bytes that a host reads beyond each end of what it looks at.
 const MARGIN: usize = 3;
 
 impl Host {
-    /// Mostly reads a range, with some bytes on both sides; a locked board gives its CRC only.
+    /// Mostly looks at a range, in a mixed script now and then on the other carrier.
     pub fn look(&mut self, range: Range) {
         if self.dice.once_in(LOOKS_AWAY) {
             return;
         }
+        let carrier = self.carrier;
+        if self.is_mixed() && self.dice.once_in(CHANGES_CARRIER) {
+            self.carrier = carrier.other();
+        }
+        self.look_closely(range);
+        self.carrier = carrier;
+    }
+
+    /// Reads a range with some bytes on both sides; a locked board gives its CRC only.
+    fn look_closely(&mut self, range: Range) {
         if self.is_locked() {
             return self.digest();
         }

@@ -1,4 +1,4 @@
-//! The bytes that a host sends on UART, each message with its complement or XOR.
+//! The bytes that a host says on UART, each message with its complement or XOR.
 
 use crate::uart::xor;
 
@@ -38,13 +38,18 @@ pub fn list_selector(x: usize) -> [u8; 2] {
     [0, one_less(x)]
 }
 
-/// A list's selector, its sector numbers and the XOR of all.
-pub fn sector_list(sectors: &[u16]) -> Vec<u8> {
-    let numbers: Vec<u8> = sectors
+/// The numbers of a list of sectors, two bytes each, high first.
+pub fn numbers(sectors: &[u16]) -> Vec<u8> {
+    sectors
         .iter()
         .flat_map(|sector| sector.to_be_bytes())
-        .collect();
-    with_xor([&list_selector(sectors.len()), numbers.as_slice()].concat())
+        .collect()
+}
+
+/// A list's selector, its sector numbers and the XOR of all.
+pub fn sector_list(sectors: &[u16]) -> Vec<u8> {
+    let selector = list_selector(sectors.len());
+    with_xor([selector.as_slice(), &numbers(sectors)].concat())
 }
 
 /// A special selector and its XOR.

@@ -1,6 +1,7 @@
 //! A board that a script is tried on, which is the second program's own.
 
-use crate::calls::{uart_byte_in_place, Cause, Taken, CAN_REPLY_BYTES};
+use crate::calls::{can_frame_in_place, uart_byte_in_place, Cause, Taken, CAN_REPLY_BYTES};
+use crate::frame::frame_bytes;
 use crate::memories::Store;
 use crate::session::{Session, Step};
 
@@ -33,6 +34,13 @@ impl OwnBoard {
     pub fn take_byte(&mut self, byte: u8) -> Result<Taken, Cause> {
         let memories = &mut self.store.lend();
         uart_byte_in_place(&mut self.session, byte, memories, &mut self.reply)
+    }
+
+    /// Takes one CAN frame.
+    pub fn take_frame(&mut self, id: u16, data: &[u8]) -> Result<Taken, Cause> {
+        let memories = &mut self.store.lend();
+        let frame = frame_bytes(id, data);
+        can_frame_in_place(&mut self.session, &frame, memories, &mut self.reply)
     }
 
     /// What was replied by a call that ended like this.

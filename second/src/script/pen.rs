@@ -9,6 +9,8 @@ pub enum Answer {
     NoLine,
     /// The joined reply bytes, none for `P`.
     Bytes(Vec<u8>),
+    /// The joined reply frames.
+    Frames(Vec<u8>),
 }
 
 /// A line without its LF, and the answer to it.
@@ -57,6 +59,11 @@ impl Pen {
         self.lines.last().map(|line| line.text.as_slice())
     }
 
+    /// Writes a `C` line and what was replied; no `U` line may be open.
+    pub fn frame(&mut self, id: u16, data: &[u8], replied: &[u8]) {
+        self.write(can_line(id, data), Answer::Frames(replied.to_vec()));
+    }
+
     /// Writes `P`.
     pub fn power_on(&mut self) {
         self.write(b"P".to_vec(), Answer::Bytes(Vec::new()));
@@ -81,6 +88,15 @@ impl Pen {
 
 /// The `U` line with these bytes.
 pub fn uart_line(bytes: &[u8]) -> Vec<u8> {
-    let fields: String = bytes.iter().map(|byte| format!(" {byte:02X}")).collect();
-    format!("U{fields}").into_bytes()
+    format!("U{}", byte_fields(bytes)).into_bytes()
+}
+
+/// The `C` line with this ID and these bytes.
+pub fn can_line(id: u16, data: &[u8]) -> Vec<u8> {
+    format!("C {id:03X}{}", byte_fields(data)).into_bytes()
+}
+
+/// The fields of these bytes, each after one space.
+fn byte_fields(bytes: &[u8]) -> String {
+    bytes.iter().map(|byte| format!(" {byte:02X}")).collect()
 }

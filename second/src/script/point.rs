@@ -1,13 +1,25 @@
 //! A point that a script is to reach, and what it is looked for in.
 
 use super::call::Call;
+use crate::line::Line;
 use crate::session::Session;
+
+/// A line as it was seen.
+#[derive(Debug)]
+pub struct SeenLine<'s> {
+    /// Its characters.
+    pub text: &'s [u8],
+    /// What they are read as, if they are a line.
+    pub line: Option<Line<'s>>,
+    /// The session that it came upon.
+    pub session: &'s Session,
+}
 
 /// Something that was seen while a script ran.
 #[derive(Debug)]
 pub enum Sight<'s> {
-    /// A line, and the session that it came upon.
-    Line(&'s [u8], &'s Session),
+    /// A line.
+    Line(&'s SeenLine<'s>),
     /// A power on, and the session that it ended.
     PowerOn(&'s Session),
     /// A call.
@@ -23,12 +35,9 @@ pub struct Point {
 
 impl Point {
     /// A point that some line reaches.
-    pub fn of_line(
-        name: impl Into<String>,
-        test: impl Fn(&[u8], &Session) -> bool + 'static,
-    ) -> Point {
+    pub fn of_line(name: impl Into<String>, test: impl Fn(&SeenLine) -> bool + 'static) -> Point {
         Point::of(name, move |sight| match sight {
-            Sight::Line(text, session) => test(text, session),
+            Sight::Line(seen) => test(seen),
             _ => false,
         })
     }

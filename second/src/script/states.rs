@@ -1,25 +1,53 @@
 //! How a host brings the board into the state that it wants.
 
 use super::host::Host;
+use super::kind::Carrier;
 use super::places::{some_sector, touched, Range};
 use crate::board::{FLASH, SECTORS};
-use crate::commands::{ACCESS_PROTECT, ACCESS_UNPROTECT, UNPROTECT};
+use crate::can::CONNECT_ID;
+use crate::commands::{ACCESS_PROTECT, ACCESS_UNPROTECT, RESET_DEVICE, UNPROTECT};
 use crate::effects::{protection_is_on, sector_is_protected};
-use crate::session::{Step, UartStep};
+use crate::frame::FRAME_DATA_BYTES;
+use crate::session::Step;
 use crate::uart::CONNECT_BYTE;
 
 /// The most sectors that a host protects without a goal.
 const FEW_SECTORS: usize = 5;
 
 impl Host {
-    /// Connects the board, unless it is connected and idle.
+    /// Connects the host's carrier, unless it is connected and idle.
     pub fn connect(&mut self) {
-        match self.board.step() {
-            Step::Uart(UartStep::Idle) if self.board.session.taken == 0 => return,
-            Step::None => {}
-            _ => self.power_on(),
+        if self.is_idle_on(self.carrier) {
+            return;
         }
-        self.say(&[CONNECT_BYTE]);
+        if !self.is_at(Step::None) {
+            self.leave();
+        }
+        match self.carrier {
+            Carrier::Uart => self.say(&[CONNECT_BYTE]),
+            Carrier::Can => {
+                let dlc = self.dice.between(0, FRAME_DATA_BYTES);
+                let data = self.dice.bytes(dlc);
+                self.send(CONNECT_ID, &data);
+            }
+        }
+    }
+
+    /// Has the board fresh, by power on or, if the other carrier is idle, by a reset on that.
+    fn leave(&mut self) {
+        let carrier = self.carrier;
+        if self.is_mixed() && self.is_idle_on(carrier.other()) && self.dice.coin() {
+            self.carrier = carrier.other();
+            self.plain(RESET_DEVICE);
+            self.carrier = carrier;
+        } else {
+            self.power_on();
+        }
+    }
+
+    /// Tells whether a carrier is connected and idle.
+    fn is_idle_on(&self, carrier: Carrier) -> bool {
+        self.is_at(carrier.idle()) && self.board.session.taken == 0
     }
 
     /// Tells whether protection is on.

@@ -1,13 +1,17 @@
 //! A script is run on a fresh board while every line, power on and call is seen.
 
-use super::call::{asked_by, ended_by, Call};
+use super::asked::Asked;
+use super::call::{ended_by, Call, Input};
 use super::coverage::Coverage;
 use super::own_board::OwnBoard;
-use super::point::Sight;
+use super::point::{SeenLine, Sight};
+use crate::calls::{Cause, Taken};
 use crate::line::{Line, LINE_BYTES};
 use crate::memories::Store;
+use crate::refused::Refused;
+use crate::session::{CanStep, Session, Step};
 
-/// A board under watch.
+/// A board under watch, and its memories before the last call.
 struct Watch<'c> {
     board: OwnBoard,
     was: Store,
@@ -30,11 +34,19 @@ pub fn watch(script: &[u8], coverage: &mut Coverage) {
 impl Watch<'_> {
     /// Sees a line and runs it.
     fn line(&mut self, text: &[u8]) {
-        self.coverage.see(&Sight::Line(text, &self.board.session));
-        match Line::read(text, &mut [0; LINE_BYTES]) {
+        let mut space = [0; LINE_BYTES];
+        let line = Line::read(text, &mut space);
+        let session = &self.board.session;
+        self.coverage.see(&Sight::Line(&SeenLine {
+            text,
+            line,
+            session,
+        }));
+        match line {
             Some(Line::Uart(bytes)) => bytes.iter().for_each(|byte| self.byte(*byte)),
+            Some(Line::Can(id, data)) => self.frame(id, data),
             Some(Line::PowerOn) => self.power_on(),
-            _ => {}
+            None => {}
         }
     }
 
@@ -44,16 +56,34 @@ impl Watch<'_> {
         self.board.power_on();
     }
 
-    /// Sees a UART byte taken; memories can change only where it ends a step.
+    /// Has a UART byte taken; one in the middle of a step is not seen, for it decides nothing.
     fn byte(&mut self, byte: u8) {
         let before = self.board.session;
-        let ended = ended_by(byte, &before);
         let called = self.board.take_byte(byte);
-        let asked = ended
-            .as_ref()
-            .map(|(step, bytes)| asked_by(*step, bytes, before.address));
+        let on_uart = matches!(before.sound_step(), Some(Step::Uart(_)));
+        if !on_uart || before.taken + 1 == before.expected {
+            self.call(Input::Byte(byte), &before, called);
+        }
+    }
+
+    /// Has a CAN frame taken.
+    fn frame(&mut self, id: u16, data: &[u8]) {
+        let before = self.board.session;
+        let called = self.board.take_frame(id, data);
+        self.call(Input::Frame(id, data), &before, called);
+    }
+
+    /// Sees a call; memories can change only where it ends a step.
+    fn call(&mut self, input: Input, before: &Session, called: Result<Taken, Cause>) {
+        let accepted = called.ok();
+        let ended = accepted.and_then(|_| ended_by(input, before, &self.board.session));
+        let asked = ended.as_ref().and_then(|(step, bytes)| {
+            let refused = accepted.and_then(|taken| taken.refused);
+            asked(*step, bytes, input, before.address, refused)
+        });
         let call = Call {
-            before: &before,
+            input,
+            before,
             after: &self.board.session,
             was: &self.was,
             is: &self.board.store,
@@ -65,5 +95,25 @@ impl Watch<'_> {
         if call.ended.is_some() {
             self.was.clone_from(&self.board.store);
         }
+    }
+}
+
+/// What an ended step asked; a gathering that a frame ended early asked nothing.
+fn asked(
+    step: Step,
+    bytes: &[u8],
+    input: Input,
+    address: u32,
+    refused: Option<Refused>,
+) -> Option<Asked> {
+    let early = matches!(
+        refused,
+        Some(Refused::OtherId | Refused::DlcZero | Refused::ExtraBytes)
+    );
+    match (step, input) {
+        (Step::Uart(step), _) => Some(Asked::by_uart(step, bytes, address)),
+        (Step::Can(CanStep::Idle), Input::Frame(id, data)) => Some(Asked::by_frame(id, data)),
+        (Step::Can(step), _) if !early => Asked::by_gathering(step, bytes, address),
+        _ => None,
     }
 }

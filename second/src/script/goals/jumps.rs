@@ -1,8 +1,10 @@
 //! Goals of Jump: into flash and SRAM, and to where nothing runs.
 
 use crate::board::{FLASH, SRAM, USD};
+use crate::can::CONNECT_ID;
 use crate::script::deck::{Deck, PLAIN, SELDOM};
 use crate::script::host::Host;
+use crate::script::kind::Carrier;
 use crate::script::places::nowhere;
 use crate::uart::CONNECT_BYTE;
 
@@ -33,12 +35,17 @@ pub fn add(deck: &mut Deck) {
     });
 }
 
-/// Jumps, and says more, which a running board refuses and another one takes.
+/// Jumps, and goes on talking, which a running board refuses and another one takes.
 fn jump(host: &mut Host, address: u32) {
     host.ready();
     host.jump(address);
     let count = host.dice.below(UNHEARD);
     let mut bytes = host.dice.bytes(count);
-    bytes.push(CONNECT_BYTE);
-    host.say_command(&bytes);
+    match host.carrier {
+        Carrier::Uart => {
+            bytes.push(CONNECT_BYTE);
+            host.say_command(&bytes);
+        }
+        Carrier::Can => host.send(CONNECT_ID, &bytes),
+    }
 }

@@ -5,19 +5,14 @@ use crate::commands::{ASKING, GET_VERSION};
 use crate::script::deck::{Deck, PLAIN, SELDOM};
 use crate::script::flaws::Flaw;
 use crate::script::host::Host;
+use crate::script::kind::{Carrier, Kind};
 use crate::script::messages;
-use crate::script::pen::uart_line;
 use crate::script::places::LONGEST;
 
-/// The letters of the lines of a UART script.
-const LETTERS: &[u8] = b"UP";
-
-/// The most bytes of a line that is to be spoiled.
-const SPOILED: usize = 12;
-
 /// Adds the goals.
-pub fn add(deck: &mut Deck) {
-    for (flaw, letter) in Flaw::all(LETTERS) {
+pub fn add(kind: Kind, deck: &mut Deck) {
+    deck.carrier = Carrier::Uart;
+    for (flaw, letter) in Flaw::all(kind.letters()) {
         deck.add(SELDOM, move |host| no_line(host, flaw, letter));
     }
     deck.add(SELDOM, longest_line_of_commands);
@@ -27,8 +22,7 @@ pub fn add(deck: &mut Deck) {
 /// Writes a line with a flaw between others.
 fn no_line(host: &mut Host, flaw: Flaw, letter: u8) {
     host.end_line();
-    let count = host.dice.between(1, SPOILED);
-    let good = uart_line(&host.dice.bytes(count));
+    let good = host.some_uart_line();
     host.write_spoiled(flaw, letter, &good);
 }
 

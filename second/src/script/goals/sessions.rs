@@ -1,9 +1,12 @@
 //! Goals of power on in every step, and of a board that is fresh.
 
+use super::gathering;
 use crate::board::{FLASH, SECTORS, SRAM};
-use crate::commands::{ERASE, FIRMWARE_CRC, JUMP, PROTECT, READ_MEMORY, WRITE_MEMORY};
+use crate::commands::{CAN_LIST, ERASE, FIRMWARE_CRC, JUMP, PROTECT, READ_MEMORY, WRITE_MEMORY};
 use crate::script::deck::{Deck, PLAIN, SELDOM};
+use crate::script::frames::{GATHERING, NEARLY_CONNECTING};
 use crate::script::host::Host;
+use crate::script::kind::Carrier;
 use crate::script::messages;
 use crate::script::places::{some_length, LONGEST};
 use crate::session::UartStep;
@@ -16,9 +19,21 @@ const SPECIAL: u16 = 0xFFFF;
 const UNHEARD: usize = 6;
 
 /// Adds the goals.
-pub fn add(deck: &mut Deck) {
-    for step in UartStep::ALL {
-        deck.add(SELDOM, move |host| cut(host, step));
+pub fn add(carrier: Carrier, deck: &mut Deck) {
+    match carrier {
+        Carrier::Uart => {
+            for step in UartStep::ALL {
+                deck.add(SELDOM, move |host| cut(host, step));
+            }
+        }
+        Carrier::Can => {
+            for step in GATHERING {
+                deck.add(SELDOM, move |host| {
+                    gathering::begin(host, step);
+                    host.power_on();
+                });
+            }
+        }
     }
     deck.add(PLAIN, |host| {
         host.connect();
@@ -26,7 +41,7 @@ pub fn add(deck: &mut Deck) {
     });
     deck.add(PLAIN, |host| {
         host.power_on();
-        say_unheard(host);
+        be_unheard(host);
         host.power_on();
     });
 }
@@ -44,7 +59,7 @@ fn cut(host: &mut Host, step: UartStep) {
     host.say(&bytes);
     host.power_on();
     if host.dice.coin() {
-        say_unheard(host);
+        be_unheard(host);
     }
 }
 
@@ -81,11 +96,21 @@ fn way_to(step: UartStep, host: &mut Host) -> Vec<Vec<u8>> {
     }
 }
 
-/// Says bytes that connect nothing.
-fn say_unheard(host: &mut Host) {
+/// Says bytes, or sends frames, that connect nothing.
+fn be_unheard(host: &mut Host) {
     let count = host.dice.between(1, UNHEARD);
     let mut bytes = host.dice.bytes(count);
-    bytes.retain(|byte| *byte != CONNECT_BYTE);
-    bytes.push(!CONNECT_BYTE);
-    host.say_command(&bytes);
+    match host.carrier {
+        Carrier::Uart => {
+            bytes.retain(|byte| *byte != CONNECT_BYTE);
+            bytes.push(!CONNECT_BYTE);
+            host.say_command(&bytes);
+        }
+        Carrier::Can => {
+            let command = u16::from(host.dice.one_of(&CAN_LIST[1..]));
+            for id in NEARLY_CONNECTING.into_iter().chain([command]) {
+                host.send(id, &bytes);
+            }
+        }
+    }
 }

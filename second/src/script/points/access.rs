@@ -7,7 +7,8 @@ use crate::commands::{
 };
 use crate::effects::{protection_is_on, sector_is_protected};
 use crate::memories::Store;
-use crate::script::call::{Asked, Call};
+use crate::script::asked::Asked;
+use crate::script::call::Call;
 
 /// Adds the points.
 pub fn add(points: &mut Points) {

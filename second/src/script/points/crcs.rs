@@ -3,9 +3,14 @@
 use super::Points;
 use crate::board::{ERASED, FLASH, SECTORS, SECTOR_BYTES, SRAM, USD};
 use crate::refused::Refused;
-use crate::script::call::{Asked, Call};
-use crate::session::UartStep;
+use crate::script::asked::Asked;
+use crate::script::call::Call;
+use crate::script::kind::Carrier;
+use crate::session::{Step, UartStep};
 use crate::uart::xor;
+
+/// The UART step that takes a count and its check.
+const COUNT: Step = Step::Uart(UartStep::CrcCount);
 
 /// The most sectors that are few.
 const FEW: usize = 3;
@@ -37,11 +42,12 @@ pub fn add(points: &mut Points) {
         "CRC of 65,536 sectors refused",
         |call| matches!(call.denied(), Some((Asked::Crc(_, sectors), _)) if *sectors == MOST),
     );
-    points.call("CRC with the bare XOR of its count refused", |call| {
-        let bare = |bytes: &[u8]| xor(bytes) == 0;
-        let refused = call.refused() == Some(Refused::Checksum);
-        refused && matches!(&call.ended, Some((UartStep::CrcCount, bytes)) if bare(bytes))
-    });
+    if points.carrier == Carrier::Uart {
+        points.call("CRC with the bare XOR of its count refused", |call| {
+            let refused = call.refused() == Some(Refused::Checksum);
+            refused && call.ends(COUNT) && bytes_of(call).is_some_and(|bytes| xor(bytes) == 0)
+        });
+    }
     add_starts(points);
 }
 
@@ -63,6 +69,11 @@ fn add_starts(points: &mut Points) {
     }
 }
 
+/// All bytes of the step that a call ended.
+fn bytes_of<'c>(call: &'c Call) -> Option<&'c [u8]> {
+    call.ended.as_ref().map(|(_, bytes)| bytes.as_slice())
+}
+
 /// The start and the sectors of an answered CRC.
 fn answered(call: &Call) -> Option<(u32, usize)> {
     match call.done() {
@@ -74,7 +85,9 @@ fn answered(call: &Call) -> Option<(u32, usize)> {
 /// The start that was refused as none.
 fn refused_start(call: &Call) -> Option<u32> {
     match call.denied() {
-        Some((Asked::CrcFrom(address), Refused::SectorStart)) => Some(*address),
+        Some((Asked::CrcFrom(address) | Asked::Crc(address, _), Refused::SectorStart)) => {
+            Some(*address)
+        }
         _ => None,
     }
 }

@@ -4,7 +4,9 @@ use super::Points;
 use crate::board::SECTORS;
 use crate::effects::any_sector_is_protected;
 use crate::refused::Refused;
-use crate::script::call::{Asked, Call};
+use crate::script::asked::Asked;
+use crate::script::call::Call;
+use crate::script::kind::Carrier;
 
 /// The lowest number with a high byte, of which a reader of the low byte alone sees 0.
 const HIGH_BYTE_ONLY: u16 = 0x0100;
@@ -56,8 +58,10 @@ fn add_special(points: &mut Points) {
     for selector in 0xFFFB..=0xFFFD {
         add_refused(points, selector, Refused::SpecialErase);
     }
-    for selector in 0xFFFB..=0xFFFF {
-        add_refused(points, selector, Refused::Checksum);
+    if points.carrier == Carrier::Uart {
+        for selector in 0xFFFB..=0xFFFF {
+            add_refused(points, selector, Refused::Checksum);
+        }
     }
 }
 

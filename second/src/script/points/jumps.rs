@@ -2,7 +2,8 @@
 
 use super::Points;
 use crate::board::{FLASH, SRAM, USD};
-use crate::script::call::{Asked, Call};
+use crate::script::asked::Asked;
+use crate::script::call::Call;
 
 /// Adds the points.
 pub fn add(points: &mut Points) {

@@ -5,7 +5,8 @@ use crate::board::SECTORS;
 use crate::commands::UNPROTECT;
 use crate::effects::sector_is_protected;
 use crate::memories::Store;
-use crate::script::call::{Asked, Call};
+use crate::script::asked::Asked;
+use crate::script::call::Call;
 use crate::script::places::LONGEST;
 
 /// Adds the points.

@@ -2,7 +2,8 @@
 
 use super::Points;
 use crate::board::{Region, ERASED, FLASH, SRAM};
-use crate::script::call::{Asked, Call};
+use crate::script::asked::Asked;
+use crate::script::call::Call;
 use crate::script::places::{Range, LONGEST, REGIONS};
 
 /// Adds the points.
@@ -64,6 +65,7 @@ fn read(call: &Call) -> Option<Range> {
 fn refused_from(call: &Call) -> Option<u32> {
     match call.denied() {
         Some((Asked::ReadFrom(address), _)) => Some(*address),
+        Some((Asked::Read(range), _)) => Some(range.address),
         _ => None,
     }
 }

@@ -4,7 +4,8 @@ use super::Points;
 use crate::board::{Region, FLASH, SECTORS, SRAM, USD};
 use crate::effects::{any_sector_is_protected, protection_is_on, sector_is_protected};
 use crate::refused::Refused;
-use crate::script::call::{Asked, Call};
+use crate::script::asked::Asked;
+use crate::script::call::Call;
 use crate::script::places::{sector_address, touched, Range, LONGEST, REGIONS};
 
 /// Adds the points.
@@ -146,7 +147,7 @@ fn is_usd(call: &Call) -> bool {
 /// The range that a rule kept from being written.
 fn denied(call: &Call, by: Refused) -> Option<Range> {
     match call.denied() {
-        Some((Asked::Write(range, _), rule)) if rule == by => Some(*range),
+        Some((Asked::Write(range, _) | Asked::WriteTo(range), rule)) if rule == by => Some(*range),
         _ => None,
     }
 }
@@ -155,6 +156,7 @@ fn denied(call: &Call, by: Refused) -> Option<Range> {
 fn refused_from(call: &Call) -> Option<u32> {
     match call.denied() {
         Some((Asked::WriteFrom(address), _)) => Some(*address),
+        Some((Asked::WriteTo(range), _)) => Some(range.address),
         _ => None,
     }
 }
