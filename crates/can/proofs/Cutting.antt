@@ -1,18 +1,18 @@
--- Laws of bytes cut into frames: piece by piece, how long they are, and that a reply's messages are its bytes so cut.
+-- Laws of bytes cut into frames: how long they are, a turn that writes one, and that a reply's messages are its bytes so cut.
 use mathlib.Core.Path.{_≡_, refl, sym, ap, _∙_}
 use mathlib.Core.Bool.{Bool, true, false}
 use mathlib.Core.List.{List, [], _∷_, _++_, append-nil}
 use Prim.Native.Nat.{ℕ, zero, suc, _+_, _*_, _-_, _/_, _%_, _≤_, _<_, min}
-use native.Mathlib.Nat.{not-suc-le-zero, le-of-suc-le-suc, min-eq-left, min-eq-right, min-le-left, add-comm, mul-suc}
+use native.Mathlib.Nat.{not-suc-le-zero, min-le-left, add-comm, mul-suc}
 use native.Mathlib.Omega.{arith}
 use denote.Enum.Declared.{tagOf}
 use types.Run.{OneOf, miss}
-use lib.Dec.{T, leb}
+use lib.Dec.{T}
 use lib.ListN.{length, take, drop, replicate, length-append, length-take, length-drop, length-replicate}
-use lib.Seq.{take-all, take-append-seam, drop-drop, drop-length, length-take-le}
-use borrow.Author.Tests.{leb-true, leb-false}
+use lib.Seq.{take-all, take-append-seam, length-take-le}
 use Rattle.words.specs.Lists.{cutUpTo, cut, singly, join, part}
 use Rattle.words.specs.Over.{put}
+use Rattle.words.proofs.Pieces.{cut-more, next-piece}
 use Rattle.words.proofs.Over.{put-then, put-front}
 use Rattle.words.specs.Bytes.{fourBytes}
 use Rattle.words.specs.Choice.{if_then_else_}
@@ -24,62 +24,7 @@ use Rattle.command.specs.declared.Reply.{Reply}
 use Rattle.command.specs.declared.Reply.the-variants.{Silence, Ack, AckAck, Nack, AckNack, Commands, Version, DeviceId, Data, Crc}
 use Rattle.reply.specs.Fixed.{replyRoom, fixedRoom}
 use Rattle.can.specs.Conversation.{canRoom, pieceOf}
-use Rattle.can.specs.Frames.{Kind, kindOf, classic, largestDlc, headBytes, frame, frames, framed, firstAlone}
-
--- ---- piece by piece
-
--- as many pieces as there are bytes are enough
-enough : (f g n : ℕ) (l : List ℕ) → length l ≤ f → length l ≤ g → 0 < n → cutUpTo f n l ≡ cutUpTo g n l
-enough zero zero n l h k p = refl
-enough zero (suc g) n [] h k p = refl
-enough zero (suc g) n (x ∷ xs) h k p = absurd (not-suc-le-zero h)
-enough (suc f) zero n [] h k p = refl
-enough (suc f) zero n (x ∷ xs) h k p = absurd (not-suc-le-zero k)
-enough (suc f) (suc g) n [] h k p = refl
-enough (suc f) (suc g) n (x ∷ xs) h k p =
-    let d = length-drop n (x ∷ xs) in
-    ap (λ (ls : List (List ℕ)). take n (x ∷ xs) ∷ ls) (enough f g n (drop n (x ∷ xs)) (omega arith) (omega arith) p)
-
--- the first piece, and what remains
-pub cut-more : (n : ℕ) (l : List ℕ) → 0 < n → 0 < length l → cut n l ≡ take n l ∷ cut n (drop n l)
-cut-more n [] p h = absurd (not-suc-le-zero h)
-cut-more n (x ∷ xs) p h =
-    let d = length-drop n (x ∷ xs) in
-    ap (λ (ls : List (List ℕ)). take n (x ∷ xs) ∷ ls) (enough (length xs) (length (drop n (x ∷ xs))) n (drop n (x ∷ xs)) (omega arith) (omega arith) p)
-
-drop-all : (n : ℕ) (l : List ℕ) → length l ≤ n → drop n l ≡ []
-drop-all zero [] h = refl
-drop-all zero (x ∷ xs) h = absurd (not-suc-le-zero h)
-drop-all (suc n) [] h = refl
-drop-all (suc n) (x ∷ xs) h = drop-all n xs (le-of-suc-le-suc h)
-
--- a turn: the next piece ends where it is full or the bytes do
-pub next-piece : (s : List ℕ) (i n : ℕ) → i < length s → 0 < n
-    → (take (min (length s - i) n + i - i) (drop i s) ≡ take n (drop i s)) × (drop (min (length s - i) n + i) s ≡ drop n (drop i s))
-    × (i < min (length s - i) n + i) × (min (length s - i) n + i ≤ length s)
-next-piece s i n h p = by-order (leb n (length s - i)) refl
-  where
-    by-order : (t : Bool) → leb n (length s - i) ≡ t
-        → (take (min (length s - i) n + i - i) (drop i s) ≡ take n (drop i s)) × (drop (min (length s - i) n + i) s ≡ drop n (drop i s))
-        × (i < min (length s - i) n + i) × (min (length s - i) n + i ≤ length s)
-    by-order true e =
-        let k = leb-true n (length s - i) e in
-        let m : min (length s - i) n ≡ n = min-eq-right k in
-        let a : n + i - i ≡ n = omega arith in
-        let b : n + i ≡ i + n = omega arith in
-        rw (m, a) (refl, ap (λ (j : ℕ). drop j s) b ∙ sym (drop-drop n i s), omega arith, omega arith)
-    by-order false e =
-        let k = leb-false n (length s - i) e in
-        let m : min (length s - i) n ≡ length s - i = min-eq-left (omega arith) in
-        let a : length s - i + i - i ≡ length s - i = omega arith in
-        let b : length s - i + i ≡ length s = omega arith in
-        let d = length-drop i s in
-        rw (m, a, b) (
-          take-all (length s - i) (drop i s) (omega arith) ∙ sym (take-all n (drop i s) (omega arith)),
-          drop-length s ∙ sym (drop-all n (drop i s) (omega arith)),
-          omega arith,
-          omega arith,
-        )
+use Rattle.can.specs.Frames.{Kind, kindOf, classic, largestDlc, headBytes, frameBytes, frame, frames, framed, firstAlone}
 
 -- ---- how long frames are
 
@@ -104,6 +49,15 @@ length-frames k id (suc f) n (x ∷ xs) h =
   where
     sum : (a b : ℕ) → a + a * b ≡ a * suc b
     sum a b = add-comm a (a * b) ∙ sym (mul-suc a b)
+
+-- messages are sent in whole frames
+pub framed-whole : (id : ℕ) (ms : List (List ℕ)) → length (framed classic id ms) % frameBytes ≡ 0
+framed-whole id [] = refl
+framed-whole id (m ∷ ms) =
+    let a = length-append (frames classic id (cut 8 m)) (framed classic id ms) in
+    let b = length-frames classic id (length m) 8 m (omega arith) in
+    let r = framed-whole id ms in
+    omega arith
 
 -- pieces of eight are no more than an eighth of the bytes, rounded up; pieces of one are as many as the bytes
 pub few-eights : (f : ℕ) (l : List ℕ) → 8 * length (cutUpTo f 8 l) ≤ length l + 7

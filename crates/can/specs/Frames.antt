@@ -33,6 +33,10 @@ pub record Frame : Type 0 where
 abbrev pub headBytes : ℕ
 headBytes = 3
 
+-- the bytes of a classic frame
+abbrev pub frameBytes : ℕ
+frameBytes = headBytes + classic .largest
+
 -- the largest ID
 abbrev pub largestId : ℕ
 largestId = 0x7FF

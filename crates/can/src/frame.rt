@@ -4,8 +4,15 @@ ghost use lib.Dec.{T};
 ghost use lib.ListN.{length, getD};
 ghost use Rattle.board.specs.Quantities.{addressBytes};
 ghost use Rattle.can.specs.Frames.{classic, headBytes, frameIn, isFrame, carried};
-use crate::say::CLASSIC;
-use crate::say::HEAD;
+
+// The bytes of a frame before its data: ID and DLC.
+pub const HEAD: usize = 3;
+
+// The data bytes of the largest frame of classic CAN.
+pub const CLASSIC: usize = 8;
+
+// The bytes of a frame.
+pub const BYTES: usize = HEAD + CLASSIC;
 
 // Where the DLC stands.
 const DLC_PLACE: usize = 2;
@@ -33,7 +40,7 @@ pub fn dlc(frame: &[u8]) -> usize
 pub fn is_frame(frame: &[u8]) -> bool
     ensures { λ r. ⌜ r ≡ isFrame classic (now (frame .entry)) ⌝ }
 {
-    if frame.len() == HEAD + CLASSIC {
+    if frame.len() == BYTES {
         (id(frame) <= LARGEST_ID) & (dlc(frame) <= CLASSIC)
     } else {
         false

@@ -9,6 +9,8 @@ ghost use Rattle.command.specs.Says.{says, sayable, Said};
 ghost use Rattle.reply.specs.Fixed.{Holds, Lists};
 ghost use Rattle.can.specs.Frames.{classic, kindOf, headBytes, largestDlc, frame, frames, framed, firstAlone};
 ghost use Rattle.can.specs.Conversation.{canRoom, commandBytes, pieceOf};
+use crate::frame::CLASSIC;
+use crate::frame::HEAD;
 use board::Board;
 use command::Reply;
 use command::code;
@@ -17,12 +19,6 @@ use reply::Fixed;
 
 // The room that a reply may need.
 pub const ROOM: usize = 363;
-
-// The bytes of a frame before its data: ID and DLC.
-pub const HEAD: usize = 3;
-
-// The data bytes of the largest frame of classic CAN.
-pub const CLASSIC: usize = 8;
 
 // n - 1, where n counts version and commands.
 const N_LESS_ONE: u8 = 0x0E;
@@ -57,7 +53,7 @@ fn commands() -> Fixed
 }
 
 // Writes a frame of an ID and a size: unused data bytes are 0.
-fn put_frame(id: u16, bytes: &[u8], size: usize, buffer: &mut [u8], at: usize)
+pub fn put_frame(id: u16, bytes: &[u8], size: usize, buffer: &mut [u8], at: usize)
     requires { ⌜ (length (now bytes) ≤ size) × (size ≤ largestDlc) × (at + (headBytes + size) ≤ length (now buffer)) ⌝ }
     ensures { λ _. ⌜ now (buffer .exit) ≡ put (now (buffer .entry)) at (frame (kindOf size) id (now (bytes .entry))) ⌝ }
 {

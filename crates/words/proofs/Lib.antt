@@ -3,3 +3,4 @@ pub mod Over
 pub mod Slices
 pub mod Bytes
 pub mod Keys
+pub mod Pieces

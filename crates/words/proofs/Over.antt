@@ -1,14 +1,14 @@
 -- Laws of bytes laid over a memory: its length, and what stands at each place afterwards.
 use mathlib.Core.Path.{_≡_, refl, ap, sym, _∙_}
 use mathlib.Core.Bool.{Bool, true, false, _&&_}
-use mathlib.Core.List.{List, [], _∷_, _++_}
+use mathlib.Core.List.{List, [], _∷_, _++_, append-nil}
 use Prim.Native.Nat.{ℕ, zero, suc, _+_, _-_, _≤_, _<_}
 use native.Mathlib.Nat.{le-of-suc-le-suc, not-suc-le-zero, zero-add, suc-add}
 use native.Mathlib.Numerals.{add-one}
 use native.Mathlib.Omega.{arith}
 use lib.Dec.{leb, ltb}
 use lib.ListN.{length, getD, set, take, drop, replicate, length-replicate, replicate-append-replicate}
-use lib.Seq.{take-suc, length-take-le}
+use lib.Seq.{take-suc, drop-length, length-take-le}
 use borrow.Author.Tests.{leb-true, leb-false, ltb-true, ltb-false}
 use Rattle.words.specs.Choice.{if_then_else_}
 use Rattle.words.specs.Over.{over, newer, put, within}
@@ -110,11 +110,6 @@ module _ (f : ℕ → ℕ → ℕ) where
       over-behind f m at (replicate j b) (at + j) (omega arith) in
       rw (old, ← replicate-append-replicate j 1 b) (rw e at (over-snoc m at (replicate j b) b (rw e h)))
 
--- a byte put over the whole of a memory
-pub put-all : (m : List ℕ) (b : ℕ) → put m 0 (replicate (length m) b) ≡ replicate (length m) b
-put-all [] b = refl
-put-all (x ∷ m) b = ap (λ (r : List ℕ). b ∷ r) (put-all m b)
-
 -- a first byte stored, and the rest put from the next place on
 pub put-cons : (m : List ℕ) (b : ℕ) (new : List ℕ) → 0 < length m → put (set m 0 b) 1 new ≡ put m 0 (b ∷ new)
 put-cons [] b new h = absurd (not-suc-le-zero h)
@@ -125,6 +120,14 @@ pub put-front : (m new : List ℕ) → length new ≤ length m → put m 0 new �
 put-front m [] h = over-none newer m 0
 put-front [] (b ∷ new) h = absurd (not-suc-le-zero h)
 put-front (x ∷ m) (b ∷ new) h = ap (λ (r : List ℕ). b ∷ r) (put-front m new (le-of-suc-le-suc h))
+
+-- as many bytes as there are replace them all
+pub put-all : (m new : List ℕ) → length new ≡ length m → put m 0 new ≡ new
+put-all m new e =
+    put-front m new (omega arith)
+    ∙ ap (λ (k : ℕ). new ++ drop k m) e
+    ∙ ap (λ (r : List ℕ). new ++ r) (drop-length m)
+    ∙ append-nil new
 
 -- one byte put is one byte stored
 pub put-one : (m : List ℕ) (at b : ℕ) → put m at (b ∷ []) ≡ set m at b

@@ -1,12 +1,12 @@
 -- What is left of a list at a turn of a loop, taken apart from its front.
 use mathlib.Core.Path.{_≡_, refl, ap}
 use mathlib.Core.List.{List, [], _∷_}
-use Prim.Native.Nat.{ℕ, suc, _+_, _≤_, _<_}
+use Prim.Native.Nat.{ℕ, suc, _+_, _-_, _≤_, _<_}
 use native.Mathlib.Nat.{not-suc-le-zero, le-of-suc-le-suc}
 use native.Mathlib.Numerals.{add-one}
 use native.Mathlib.Omega.{arith}
 use lib.ListN.{length, getD, take, drop, length-drop}
-use lib.Seq.{slice, slice-cons, length-take-le}
+use lib.Seq.{slice, slice-cons, take-all, length-take-le}
 use Rattle.words.specs.Bytes.{number}
 use Rattle.words.specs.Lists.{pairs, part}
 
@@ -36,3 +36,7 @@ take-four (a ∷ b ∷ s) h = ap (λ (l : List ℕ). a ∷ b ∷ l) (take-two s 
 -- a part that is there has its length
 pub length-part : (l : List ℕ) (at n : ℕ) → at + n ≤ length l → length (part at n l) ≡ n
 length-part l at n h = length-take-le n (drop at l) (simp length-drop (omega arith))
+
+-- a slice from a place to the end is what is left from that place
+pub to-the-end : (n : ℕ) (l : List ℕ) → take (length l - n) (drop n l) ≡ drop n l
+to-the-end n l = take-all (length l - n) (drop n l) (simp length-drop (omega arith))

@@ -9,7 +9,6 @@ pub is-frame-spec : {M : Type 1} → statement M
 is-frame-spec =
     tie.close
     (tie.spec
-    (λ c. search needs)
     (λ c κs. search needs)
     (λ c κs. search needs)
     (λ c. rw (eq-eqb (length (c .before .before .before .before .args .frame .now)) 11 (c .before .before .if1 .taken), ← (c .before .id .ensures), ← (c .dlc .ensures)))
