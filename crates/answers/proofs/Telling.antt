@@ -1,25 +1,34 @@
 -- What a call left, as it is told: its reply, and the state after it.
 use mathlib.Core.Path.{_≡_, refl, sym, ap, _∙_}
-use mathlib.Core.List.{List, [], _∷_, _++_, map}
-use Prim.Native.Nat.{ℕ, _+_, _*_, _≤_, _<_}
+use mathlib.Core.Bool.{Bool, true, false}
+use mathlib.Core.List.{List, [], _∷_, _++_, map, append-nil}
+use Prim.Native.Nat.{ℕ, _+_, _*_, _%_, _≤_, _<_}
 use native.Mathlib.Omega.{arith}
+use denote.Enum.Declared.{tagOf}
+use types.Run.{OneOf, miss}
 use lib.ListN.{length, getD, set, take, drop, length-append, length-drop}
 use lib.Seq.{take-append-seam}
 use Rattle.words.specs.Over.{put, newer}
 use Rattle.words.proofs.Over.{over-none, put-one, put-then}
+use Rattle.words.specs.Choice.{if_then_else_}
 use Rattle.memories.specs.Effects.{effect}
 use Rattle.command.specs.Says.{says}
+use Rattle.can.specs.Frames.{frameBytes, frameIn}
+use Rattle.can.proofs.Cutting.{framed-whole}
 use Rattle.boot.specs.Session.{after}
-use Rattle.boot.specs.Calls.{State, powered, Byte, causeFor, decide, sent, perform, call}
+use Rattle.boot.specs.Causes.{accepts}
+use Rattle.boot.specs.Calls.{State, powered, Input, Power, Byte, Framed, commandsOf, bears, causeFor, decide, sent, perform, refused, call}
 use Rattle.boot.specs.Promise.{Given, Left, givenByte, stateOf, outcome, Took}
 use Rattle.boot.specs.declared.Session.{Session}
 use Rattle.lines.specs.Digits.{byteIn, decimal}
 use Rattle.lines.specs.Lines.{lineFeed, space, fields}
 use Rattle.answers.specs.Told.{Told, quiet, _then_}
 use Rattle.lines.specs.Prints.{spelled}
-use Rattle.answers.specs.Answers.{answered, notUnderstood, deskRoom, tell, tells, callsOf, obeyed, notice}
+use Rattle.answers.specs.Answers.{answered, notUnderstood, deskRoom, spelledFor, tell, tells, callsOf, obeyed, notice, answerBy}
 use Rattle.answers.specs.Promise.{Tells}
-use Rattle.lines.specs.declared.Kind.the-variants.{PowerOn}
+use Rattle.lines.specs.declared.Kind.{Kind}
+use Rattle.lines.specs.declared.Kind.the-variants.{Bytes, Frame, PowerOn, Other}
+use Rattle.lines.proofs.Kind.{the-type}
 use Rattle.lines.proofs.Printing.{length-spelled}
 use Rattle.lines.proofs.Lines.{field-first}
 
@@ -38,24 +47,60 @@ module _ (g : Given) (l : Left) (t : Took g l) where
   pub took-reply : take (l .result .length) (l .buffer) ≡ outcome g .reply
   took-reply = rw (t .count, t .buffer) (take-append-seam (outcome g .reply) (drop (length (outcome g .reply)) (g .buffer)))
 
--- a byte was taken, and its reply printed
-module _ (s : Session) (b : ℕ) (flash sram usd lent : List ℕ) (room : length lent ≡ deskRoom) where
-  pub byte-told : (l : Left) → Took (givenByte s b flash sram usd lent) l
-      → (at end : ℕ) (out out' : List ℕ) → end ≡ at + l .result .length * 3
-      → out' ≡ put out at (spelled (take (l .result .length) (l .buffer)))
-      → Tells (tell (Byte deskRoom b) (stateOf s flash sram usd)) at out end out' (stateOf (l .result .session) (l .flash) (l .sram) (l .usd))
+-- an input was taken, and its reply printed
+module _ (input : ℕ → Input) (s : Session) (flash sram usd lent : List ℕ) (room : length lent ≡ deskRoom) where
+  abbrev pub given : Given
+  given = record { input = input (length lent); state = stateOf s flash sram usd; buffer = lent }
+
+  pub input-told : (l : Left) → Took given l → (at end : ℕ) (out out' : List ℕ)
+      → end ≡ at + length (spelledFor (input (length lent)) (take (l .result .length) (l .buffer)))
+      → out' ≡ put out at (spelledFor (input (length lent)) (take (l .result .length) (l .buffer)))
+      → Tells (tell (input deskRoom) (stateOf s flash sram usd)) at out end out' (stateOf (l .result .session) (l .flash) (l .sram) (l .usd))
   unfolding outcome tell
-  byte-told l t at end out out' e w = record {
-    end = e ∙ ap (λ (k : ℕ). at + k) (ap (λ (k : ℕ). k * 3) (t .count) ∙ sym (length-spelled (call (Byte (length lent) b) (stateOf s flash sram usd) .reply)) ∙ ap (λ (n : ℕ). length (spelled (call (Byte n b) (stateOf s flash sram usd) .reply))) room);
-    text = w ∙ ap (λ (r : List ℕ). put out at (spelled r)) (took-reply (givenByte s b flash sram usd lent) l t ∙ ap (λ (n : ℕ). call (Byte n b) (stateOf s flash sram usd) .reply) room);
-    state = left-state ∙ ap (λ (n : ℕ). call (Byte n b) (stateOf s flash sram usd) .state) room;
+  input-told l t at end out out' e w = record {
+    end = e
+        ∙ ap (λ (r : List ℕ). at + length (spelledFor (input (length lent)) r)) (took-reply given l t)
+        ∙ ap (λ (n : ℕ). at + length (spelledFor (input n) (call (input n) (stateOf s flash sram usd) .reply))) room;
+    text = w
+        ∙ ap (λ (r : List ℕ). put out at (spelledFor (input (length lent)) r)) (took-reply given l t)
+        ∙ ap (λ (n : ℕ). put out at (spelledFor (input n) (call (input n) (stateOf s flash sram usd) .reply))) room;
+    state = left-state ∙ ap (λ (n : ℕ). call (input n) (stateOf s flash sram usd) .state) room;
   }
     where
-      left-state : stateOf (l .result .session) (l .flash) (l .sram) (l .usd) ≡ call (Byte (length lent) b) (stateOf s flash sram usd) .state
+      left-state : stateOf (l .result .session) (l .flash) (l .sram) (l .usd) ≡ call (input (length lent)) (stateOf s flash sram usd) .state
       left-state = λ i. record {
         session = t .session i;
         memories = record { flash = t .flash i; sram = t .sram i; usd = t .usd i };
       }
+
+-- a byte was taken, and its reply printed in three characters each
+pub byte-told : (s : Session) (b : ℕ) (flash sram usd lent : List ℕ) → length lent ≡ deskRoom → (l : Left) → Took (givenByte s b flash sram usd lent) l
+    → (at end : ℕ) (out out' : List ℕ) → end ≡ at + l .result .length * 3
+    → out' ≡ put out at (spelled (take (l .result .length) (l .buffer)))
+    → Tells (tell (Byte deskRoom b) (stateOf s flash sram usd)) at out end out' (stateOf (l .result .session) (l .flash) (l .sram) (l .usd))
+byte-told s b flash sram usd lent room l t at end out out' e w =
+    let r = ap length (took-reply (givenByte s b flash sram usd lent) l t) ∙ sym (t .count) in
+    let k = length-spelled (take (l .result .length) (l .buffer)) in
+    input-told (λ (n : ℕ). Byte n b) s flash sram usd lent room l t at end out out' (omega arith) w
+
+-- the reply to a frame is whole frames
+pub frame-whole : (room : ℕ) (f : List ℕ) (p : State) → length (call (Framed room f) p .reply) % frameBytes ≡ 0
+unfolding call perform sent
+frame-whole room f p = by-cause (accepts (causeFor (Framed room f) p))
+  where
+    by-cause : (a : Bool)
+        → length ((if a then perform (Framed room f) p (decide (Framed room f) (p .session) (p .memories .usd)) else refused (causeFor (Framed room f) p) p) .reply) % frameBytes ≡ 0
+    by-cause true = framed-whole (bears (p .session) (frameIn f .id)) (says (commandsOf (Framed room f)) (decide (Framed room f) (p .session) (p .memories .usd) .reply) (p .memories))
+    by-cause false = refl
+
+-- one call that is told is all that is
+pub one-call : (i : Input) (p : State) (at end : ℕ) (out out' : List ℕ) (q : State) → Tells (tell i p) at out end out' q → Tells (tells (i ∷ []) p) at out end out' q
+unfolding tells
+one-call i p at end out out' q h = record {
+  end = h .end ∙ ap (λ (t : List ℕ). at + length t) (sym (append-nil (tell i p .text)));
+  text = h .text ∙ ap (λ (t : List ℕ). put out at t) (sym (append-nil (tell i p .text)));
+  state = h .state;
+}
 
 -- what is left to tell from a place in a text on ends as the whole does
 pub record Continues {A : Type 0} (rest : Told A) (from : ℕ) (out : List ℕ) (whole : Told A) (at : ℕ) (before : List ℕ) : Type 0 where
@@ -115,8 +160,20 @@ obeyed-told t at end m out' p h = record {
   state = h .state;
 }
 
--- power on is answered by nothing but `>`, and leaves the memories
-pub power-told : (p : State) → obeyed (tells (callsOf PowerOn []) p) ≡ record { text = answered ∷ lineFeed ∷ []; state = powered (p .memories) }
+-- a line of another kind than Other is answered by the replies of its calls
+pub obeyed-by : (k : Kind) (n : ℕ) (line : List ℕ) (p : State) → OneOf (0 ∷ 1 ∷ 2 ∷ []) (tagOf the-type k) → answerBy k n line p ≡ obeyed (tells (callsOf k line) p)
+unfolding answerBy
+obeyed-by Bytes n line p h = refl
+obeyed-by Frame n line p h = refl
+obeyed-by PowerOn n line p h = refl
+obeyed-by Other n line p h = absurd (miss (0 ∷ 1 ∷ 2 ∷ []) 3 tt h)
+
+-- nothing is told in no character
+pub nothing-told : (p : State) (at : ℕ) (out : List ℕ) → Tells (quiet p) at out at out p
+nothing-told p at out = record { end = omega arith; text = sym (over-none newer out at); state = refl }
+
+-- power on has no reply, and leaves the memories
+pub power-told : (p : State) → tells (Power ∷ []) p ≡ quiet (powered (p .memories))
 unfolding tells tell call causeFor decide perform sent after effect says
 power-told p = refl
 

@@ -3,13 +3,13 @@ use Prim.Native.Nat.{ℕ}
 use mathlib.Core.List.{List, [], _∷_, _++_, map}
 use lib.ListN.{drop}
 use Rattle.can.specs.Conversation.{canRoom}
-use Rattle.boot.specs.Calls.{State, Input, Power, Byte, call}
+use Rattle.boot.specs.Calls.{State, Input, Power, Byte, Framed, call}
 use Rattle.lines.specs.Digits.{decimal}
-use Rattle.lines.specs.Lines.{lineFeed, space, fields, kindOf}
-use Rattle.lines.specs.Prints.{spelled}
+use Rattle.lines.specs.Lines.{lineFeed, space, fields, frameWritten, kindOf}
+use Rattle.lines.specs.Prints.{spelled, spelledFrames}
 use Rattle.answers.specs.Told.{Told, quiet, _then_}
 use Rattle.lines.specs.declared.Kind.{Kind}
-use Rattle.lines.specs.declared.Kind.the-variants.{Bytes, PowerOn, Other}
+use Rattle.lines.specs.declared.Kind.the-variants.{Bytes, Frame, PowerOn, Other}
 
 -- the characters that begin an answer
 abbrev pub answered : ℕ
@@ -22,9 +22,15 @@ notUnderstood = 0x3F
 abbrev pub deskRoom : ℕ
 deskRoom = canRoom
 
+-- a reply as it is printed for an input: bytes for a byte, frames for a frame
+abbrev pub spelledFor : Input → List ℕ → List ℕ
+spelledFor Power reply = []
+spelledFor (Byte room b) reply = spelled reply
+spelledFor (Framed room l) reply = spelledFrames reply
+
 -- a call is made, and its reply printed; a refused call has none, and adds nothing
 unfoldable pub tell : Input → State → Told State
-tell i p = record { text = spelled (call i p .reply); state = call i p .state }
+tell i p = record { text = spelledFor i (call i p .reply); state = call i p .state }
 
 -- calls are made one after another, and their replies joined
 unfoldable pub tells : List Input → State → Told State
@@ -34,6 +40,7 @@ tells (i ∷ is) p = tell i p then tells is
 -- the calls that a line of a kind makes
 abbrev pub callsOf : Kind → List ℕ → List Input
 callsOf Bytes line = map (Byte deskRoom) (fields (drop 1 line))
+callsOf Frame line = Framed deskRoom (frameWritten (drop 1 line)) ∷ []
 callsOf PowerOn line = Power ∷ []
 callsOf Other line = []
 
@@ -51,6 +58,7 @@ unobeyed n p = record { text = notice n; state = p }
 -- the answer to line n, by its kind
 unfoldable pub answerBy : Kind → ℕ → List ℕ → State → Told State
 answerBy Bytes n line p = obeyed (tells (callsOf Bytes line) p)
+answerBy Frame n line p = obeyed (tells (callsOf Frame line) p)
 answerBy PowerOn n line p = obeyed (tells (callsOf PowerOn line) p)
 answerBy Other n line p = unobeyed n p
 

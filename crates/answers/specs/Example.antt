@@ -1,4 +1,4 @@
--- The example of document 01, "The program desk", as far as desk takes its lines.
+-- The example of document 01, "The program desk".
 use Prim.Native.Nat.{ℕ, zero, suc, _+_}
 use Prim.Native.Char.{code}
 use Prim.Native.String.{String, len, charAt}
@@ -19,10 +19,10 @@ written (t ∷ ts) = charactersFrom t 0 (len t) ++ lineFeed ∷ written ts
 
 -- what is typed, and what is printed, whole
 abbrev pub typed : List String
-typed = "U 7F" ∷ "U 01 FE" ∷ "P" ∷ "Q" ∷ []
+typed = "U 7F" ∷ "U 01 FE" ∷ "P" ∷ "C 079" ∷ "Q" ∷ []
 
 abbrev pub printed : List String
-printed = "> 79" ∷ "> 79 20 01 07 79" ∷ ">" ∷ "? 4" ∷ []
+printed = "> 79" ∷ "> 79 20 01 07 79" ∷ ">" ∷ "> 079:79" ∷ "? 5" ∷ []
 
 -- the example holds
 pub record Example : Type 0 where

@@ -2,13 +2,12 @@ ghost use mathlib.Core.Path.{_≡_};
 ghost use mathlib.Core.List.{[], _∷_, map};
 ghost use Prim.Native.Nat.{_+_, _*_, _≤_, _<_};
 ghost use lib.Dec.{T};
-ghost use lib.ListN.{length, drop};
+ghost use lib.ListN.{length};
 ghost use Rattle.words.specs.Over.{put};
-ghost use Rattle.boot.specs.Session.{fresh};
-ghost use Rattle.boot.specs.Calls.{Byte};
+ghost use Rattle.boot.specs.Calls.{Byte, Framed};
 ghost use Rattle.boot.specs.Promise.{stateOf};
-ghost use Rattle.lines.specs.Lines.{lineFeed, fieldCharacters, areFields, fields};
-ghost use Rattle.answers.specs.Answers.{answered, deskRoom, tell, tells, callsOf, obeyed, notice, answer};
+ghost use Rattle.lines.specs.Lines.{fieldCharacters, areFields, fields, areFrame, frameWritten, kindOf};
+ghost use Rattle.answers.specs.Answers.{deskRoom, tell, tells, callsOf, obeyed, notice, answer};
 ghost use Rattle.answers.specs.Promise.{Tells, noticeRoom, answerRoom};
 use crate::Answered;
 use boot::Session;
@@ -18,6 +17,7 @@ use lines::line;
 use lines::line::FIELD;
 use lines::line::SPACE;
 use lines::print;
+use lines::written;
 
 // The room for a reply: what either carrier needs.
 const ROOM: usize = 363;
@@ -83,9 +83,37 @@ fn tell_bytes(
     told
 }
 
-// Answers a line of bytes by their replies.
-fn obey_bytes(
+// Makes the call of the frame that characters write, and prints the frames of its reply.
+fn tell_frame(
     session: Session,
+    rest: &[u8],
+    flash: &mut [u8],
+    sram: &mut [u8],
+    usd: &mut [u8],
+    out: &mut [u8],
+    at: usize,
+) -> Answered
+    requires { ⌜ T (areFrame (now rest)) × (at + deskRoom * length (now rest) ≤ length (now out)) ⌝ }
+    ensures { λ r. ⌜ Tells (tells (Framed deskRoom (frameWritten (now (rest .entry))) ∷ []) (stateOf session (now (flash .entry)) (now (sram .entry)) (now (usd .entry)))) at (now (out .entry)) (r .end) (now (out .exit)) (stateOf (r .session) (now (flash .exit)) (now (sram .exit)) (now (usd .exit))) ⌝ }
+    ensures { λ r. ⌜ r .end ≤ at + deskRoom * length (now (rest .entry)) ⌝ }
+{
+    let mut input = [0u8; can::frame::BYTES];
+    written::frame(rest, &mut input);
+    let mut buffer = [0u8; ROOM];
+    let taken = session.take_frame(&input, flash, sram, usd, &mut buffer);
+    let next = taken.session;
+    let n = taken.length;
+    let end = print::frames(&buffer[..n], out, at);
+    Answered {
+        session: next,
+        end: end,
+    }
+}
+
+// Makes the calls of a line of a kind, and prints their replies.
+fn tell_line(
+    session: Session,
+    kind: Kind,
     line: &[u8],
     flash: &mut [u8],
     sram: &mut [u8],
@@ -93,31 +121,47 @@ fn obey_bytes(
     out: &mut [u8],
     at: usize,
 ) -> Answered
-    requires { ⌜ (0 < length (now line)) × T (areFields (drop 1 (now line))) × (at + answerRoom (length (now line)) ≤ length (now out)) ⌝ }
-    ensures { λ r. ⌜ Tells (obeyed (tells (callsOf Kind.Bytes (now (line .entry))) (stateOf session (now (flash .entry)) (now (sram .entry)) (now (usd .entry))))) at (now (out .entry)) (r .end) (now (out .exit)) (stateOf (r .session) (now (flash .exit)) (now (sram .exit)) (now (usd .exit))) ⌝ }
+    requires { ⌜ (kind ≡ kindOf (now line)) × (at + deskRoom * length (now line) ≤ length (now out)) ⌝ }
+    ensures { λ r. ⌜ Tells (tells (callsOf kind (now (line .entry))) (stateOf session (now (flash .entry)) (now (sram .entry)) (now (usd .entry)))) at (now (out .entry)) (r .end) (now (out .exit)) (stateOf (r .session) (now (flash .exit)) (now (sram .exit)) (now (usd .exit))) ⌝ }
+    ensures { λ r. ⌜ r .end ≤ at + deskRoom * length (now (line .entry)) ⌝ }
+{
+    match kind {
+        Kind::Bytes => tell_bytes(session, &line[1..], flash, sram, usd, out, at),
+        Kind::Frame => tell_frame(session, &line[1..], flash, sram, usd, out, at),
+        Kind::PowerOn => Answered {
+            session: Session::power_on(),
+            end: at,
+        },
+        Kind::Other => Answered {
+            session: session,
+            end: at,
+        },
+    }
+}
+
+// Answers a line of a kind by the replies of its calls.
+fn obey(
+    session: Session,
+    kind: Kind,
+    line: &[u8],
+    flash: &mut [u8],
+    sram: &mut [u8],
+    usd: &mut [u8],
+    out: &mut [u8],
+    at: usize,
+) -> Answered
+    requires { ⌜ (kind ≡ kindOf (now line)) × (at + answerRoom (length (now line)) ≤ length (now out)) ⌝ }
+    ensures { λ r. ⌜ Tells (obeyed (tells (callsOf kind (now (line .entry))) (stateOf session (now (flash .entry)) (now (sram .entry)) (now (usd .entry))))) at (now (out .entry)) (r .end) (now (out .exit)) (stateOf (r .session) (now (flash .exit)) (now (sram .exit)) (now (usd .exit))) ⌝ }
     ensures { λ r. ⌜ r .end ≤ at + answerRoom (length (now (line .entry))) ⌝ }
 {
     out[at] = ANSWERED;
-    let told = tell_bytes(session, &line[1..], flash, sram, usd, out, at + 1);
+    let told = tell_line(session, kind, line, flash, sram, usd, out, at + 1);
     let next = told.session;
     let end = told.end;
     out[end] = LINE_FEED;
     Answered {
         session: next,
         end: end + 1,
-    }
-}
-
-// Answers a line that asks for power on.
-fn obey_power(out: &mut [u8], at: usize) -> Answered
-    requires { ⌜ at + 2 ≤ length (now out) ⌝ }
-    ensures { λ r. ⌜ (r .session ≡ fresh) × (r .end ≡ at + 2) × (now (out .exit) ≡ put (now (out .entry)) at (answered ∷ lineFeed ∷ [])) ⌝ }
-{
-    let text = [ANSWERED, LINE_FEED];
-    words::copy(out, at, &text, 0, 2);
-    Answered {
-        session: Session::power_on(),
-        end: at + 2,
     }
 }
 
@@ -150,11 +194,10 @@ pub fn answer(
 {
     let kind = line::kind(line);
     match kind {
-        Kind::Bytes => obey_bytes(session, line, flash, sram, usd, out, at),
-        Kind::PowerOn => obey_power(out, at),
         Kind::Other => Answered {
             session: session,
             end: disobey(number, out, at),
         },
+        _ => obey(session, kind, line, flash, sram, usd, out, at),
     }
 }

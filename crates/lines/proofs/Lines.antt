@@ -2,19 +2,24 @@
 use mathlib.Core.Path.{_≡_, refl, sym, ap, subst, _∙_}
 use mathlib.Core.Bool.{Bool, true, false, _&&_}
 use mathlib.Core.List.{List, [], _∷_}
-use Prim.Native.Nat.{ℕ, suc, _+_, _≤_, _<_}
+use Prim.Native.Nat.{ℕ, suc, _+_, _*_, _≤_, _<_}
 use native.Mathlib.Nat.{not-suc-le-zero, le-of-suc-le-suc}
 use native.Mathlib.Omega.{arith}
-use lib.Dec.{T, eqb, ltb}
-use lib.ListN.{length, getD, drop, length-drop}
-use lib.Seq.{drop-cons}
+use lib.Dec.{T, eqb, leb, ltb, leb→le}
+use lib.ListN.{length, getD, take, drop, length-drop}
+use lib.Seq.{drop-cons, take-append-seam}
 use borrow.Author.Tests.{eq-eqb, ne-eqb, lt-ltb, le-ltb}
 use Rattle.words.specs.Choice.{if_then_else_}
+use Rattle.words.specs.Bytes.{number}
+use Rattle.words.specs.Over.{put}
+use Rattle.words.proofs.Over.{put-front, put-all}
 use Rattle.words.proofs.Tests.{both-left, both-right}
-use Rattle.lines.specs.Digits.{isDigit}
-use Rattle.lines.specs.Lines.{space, letterU, letterP, mostCharacters, isField, areFields, kindBy, kindOf}
+use Rattle.can.specs.Frames.{classic, frameBytes, frame}
+use Rattle.can.proofs.Cutting.{length-frame}
+use Rattle.lines.specs.Digits.{isDigit, valueOf, byteIn}
+use Rattle.lines.specs.Lines.{space, letterU, letterP, letterC, mostCharacters, isField, areFields, fields, areFrame, idIn, frameWritten, kindBy, kindOf}
 use Rattle.lines.specs.declared.Kind.{Kind}
-use Rattle.lines.specs.declared.Kind.the-variants.{Bytes, PowerOn, Other}
+use Rattle.lines.specs.declared.Kind.the-variants.{Bytes, Frame, PowerOn, Other}
 
 -- what is left from a place that a field has behind it
 pub field-first : (s : List ℕ) (i : ℕ) → i + 2 < length s
@@ -58,6 +63,85 @@ field-good s i h t =
       both-right (isField a b d) (areFields (drop (i + 3) s)) u,
     )
 
+-- what fields write from a place on: the first field's byte, and what the others write
+pub fields-first : (s : List ℕ) (i : ℕ) → i + 2 < length s
+    → fields (drop i s) ≡ byteIn (getD s (i + 1) 0) (getD s (i + 2) 0) ∷ fields (drop (i + 3) s)
+fields-first s i h = rw (field-first s i h) refl
+
+-- a byte takes a field's characters
+pub length-fields : (l : List ℕ) → T (areFields l) → length l ≡ 3 * length (fields l)
+length-fields [] t = refl
+length-fields (a ∷ []) t = absurd t
+length-fields (a ∷ b ∷ []) t = absurd t
+length-fields (a ∷ b ∷ c ∷ l) t = let e = length-fields l (both-right (isField a b c) (areFields l) t) in omega arith
+
+-- an ID and data: their digits, and no more data than a frame carries
+pub record FrameGood (l : List ℕ) : Type 0 where
+  pub long : 4 ≤ length l
+  pub high : T (isDigit (getD l 1 0))
+  pub middle : T (isDigit (getD l 2 0))
+  pub low : T (isDigit (getD l 3 0))
+  pub behind : T (areFields (drop 4 l))
+  pub fits : length l ≤ 28
+
+pub frame-good : (l : List ℕ) → T (areFrame l) → FrameGood l
+frame-good l t = record {
+  long = leb→le 4 (length l) (both-left a b (both-left (a && b) c v));
+  high = both-right (a && b) c v;
+  middle = both-right (a && b && c) d (both-left (a && b && c && d) e u);
+  low = both-right (a && b && c && d) e u;
+  behind = both-right (a && b && c && d && e) f w;
+  fits = leb→le (length l) 28 (both-right (a && b && c && d && e && f) g t);
+}
+  where
+    a : Bool
+    a = leb 4 (length l)
+
+    b : Bool
+    b = eqb (getD l 0 0) space
+
+    c : Bool
+    c = isDigit (getD l 1 0)
+
+    d : Bool
+    d = isDigit (getD l 2 0)
+
+    e : Bool
+    e = isDigit (getD l 3 0)
+
+    f : Bool
+    f = areFields (drop 4 l)
+
+    g : Bool
+    g = leb (length l) 28
+
+    w : T (a && b && c && d && e && f)
+    w = both-left (a && b && c && d && e && f) g t
+
+    u : T (a && b && c && d && e)
+    u = both-left (a && b && c && d && e) f w
+
+    v : T (a && b && c)
+    v = both-left (a && b && c) d (both-left (a && b && c && d) e u)
+
+pub data-fits : (l : List ℕ) → FrameGood l → length (fields (drop 4 l)) ≤ 8
+data-fits l g =
+    let s = length-fields (drop 4 l) (g .behind) in
+    let o = g .fits in
+    let d = length-drop 4 l in
+    omega arith
+
+-- the bytes of the data and the ID make the frame that is written
+pub frame-made : (l m lent : List ℕ) (n id : ℕ) → FrameGood l → length m ≡ frameBytes → length lent ≡ 8
+    → n ≡ length (fields (drop 4 l)) → id ≡ number (valueOf (getD l 1 0) ∷ byteIn (getD l 2 0) (getD l 3 0) ∷ [])
+    → put m 0 (frame classic id (take n (put lent 0 (fields (drop 4 l))))) ≡ frameWritten l
+frame-made l m lent n id h e k c i =
+    let o = data-fits l h in
+    let x = fields (drop 4 l) in
+    let j : id ≡ idIn l = i ∙ (omega arith) in
+    let y = length-frame classic (idIn l) x (omega arith) in
+    rw (c, put-front lent x (omega arith), take-append-seam x (drop (length x) lent), j) (put-all m (frame classic (idIn l) x) (omega arith))
+
 -- a line of no character, of no more than the most, and of more
 pub kind-empty : (line : List ℕ) → length line ≡ 0 → Other ≡ kindOf line
 unfolding kindOf
@@ -74,26 +158,64 @@ unfolding kindOf
 kind-beyond [] h = refl
 kind-beyond (c ∷ rest) h = rw (le-ltb (length rest) 800 (omega arith)) refl
 
--- a line of bytes has a letter, and fields behind it
+-- a line of bytes has a letter, and fields behind it; a line of a frame has a letter, and a frame behind it
 isBytes : Kind → Bool
 isBytes Bytes = true
 isBytes PowerOn = false
 isBytes Other = false
+isBytes Frame = false
+
+isFrame : Kind → Bool
+isFrame Bytes = false
+isFrame PowerOn = false
+isFrame Other = false
+isFrame Frame = true
+
+-- the kind by its tests: that of the length, of the letter and what follows it, for each kind
+abbrev kindWhere : Bool → Bool → Bool → Bool → Bool → Bool → Kind
+kindWhere short letter fields power other frame =
+    if short then (if letter && fields then Bytes else if power then PowerOn else if other && frame then Frame else Other) else Other
+
+bytes-where : (short letter fields power other frame : Bool) → T (isBytes (kindWhere short letter fields power other frame)) → T fields
+unfolding isBytes
+bytes-where true true true power other frame t = tt
+bytes-where true true false true other frame t = t
+bytes-where true true false false true true t = t
+bytes-where true true false false true false t = t
+bytes-where true true false false false frame t = t
+bytes-where true false fields true other frame t = absurd t
+bytes-where true false fields false true true t = absurd t
+bytes-where true false fields false true false t = absurd t
+bytes-where true false fields false false frame t = absurd t
+bytes-where false letter fields power other frame t = absurd t
+
+frame-where : (short letter fields power other frame : Bool) → T (isFrame (kindWhere short letter fields power other frame)) → T frame
+unfolding isFrame
+frame-where true true true power other frame t = absurd t
+frame-where true true false true other frame t = absurd t
+frame-where true true false false true true t = tt
+frame-where true true false false true false t = t
+frame-where true true false false false frame t = absurd t
+frame-where true false fields true other frame t = absurd t
+frame-where true false fields false true true t = tt
+frame-where true false fields false true false t = t
+frame-where true false fields false false frame t = absurd t
+frame-where false letter fields power other frame t = absurd t
 
 pub bytes-line : (line : List ℕ) → kindOf line ≡ Bytes → (0 < length line) × T (areFields (drop 1 line))
 unfolding kindOf isBytes
 bytes-line line e = by-line line (subst (λ (k : Kind). T (isBytes k)) (sym e) tt)
   where
-    by-tests : (short letter power fields : Bool)
-        → T (isBytes (if short then (if letter && fields then Bytes else if power then PowerOn else Other) else Other)) → T fields
-    by-tests true true power true t = tt
-    by-tests true true true false t = t
-    by-tests true true false false t = t
-    by-tests true false true fields t = absurd t
-    by-tests true false false fields t = absurd t
-    by-tests false letter power fields t = absurd t
-
     by-line : (line : List ℕ) → T (isBytes (kindOf line)) → (0 < length line) × T (areFields (drop 1 line))
     by-line [] t = absurd t
     by-line (c ∷ rest) t =
-        (omega arith, by-tests (ltb (length rest) mostCharacters) (eqb c letterU && ltb 0 (length rest)) (eqb c letterP && eqb (length rest) 0) (areFields rest) t)
+        (omega arith, bytes-where (ltb (length rest) mostCharacters) (eqb c letterU && ltb 0 (length rest)) (areFields rest) (eqb c letterP && eqb (length rest) 0) (eqb c letterC) (areFrame rest) t)
+
+pub frame-line : (line : List ℕ) → kindOf line ≡ Frame → (0 < length line) × T (areFrame (drop 1 line))
+unfolding kindOf isFrame
+frame-line line e = by-line line (subst (λ (k : Kind). T (isFrame k)) (sym e) tt)
+  where
+    by-line : (line : List ℕ) → T (isFrame (kindOf line)) → (0 < length line) × T (areFrame (drop 1 line))
+    by-line [] t = absurd t
+    by-line (c ∷ rest) t =
+        (omega arith, frame-where (ltb (length rest) mostCharacters) (eqb c letterU && ltb 0 (length rest)) (areFields rest) (eqb c letterP && eqb (length rest) 0) (eqb c letterC) (areFrame rest) t)

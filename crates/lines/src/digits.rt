@@ -11,7 +11,7 @@ pub fn is_digit(c: u8) -> bool
 }
 
 // The value of a hex digit.
-fn value(c: u8) -> u8
+pub fn value(c: u8) -> u8
     requires { ⌜ T (isDigit c) ⌝ }
     ensures { λ r. ⌜ (r ≡ valueOf c) × (r < 16) ⌝ }
 {

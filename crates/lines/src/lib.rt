@@ -1,10 +1,12 @@
 pub mod digits;
 pub mod line;
 pub mod print;
+pub mod written;
 
 // What a line asks for.
 pub enum Kind {
     Bytes,
+    Frame,
     PowerOn,
     Other,
 }

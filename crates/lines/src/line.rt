@@ -1,6 +1,6 @@
 ghost use mathlib.Core.Path.{_≡_};
 ghost use Prim.Native.Nat.{_<_};
-ghost use Rattle.lines.specs.Lines.{isField, areFields, kindBy, kindOf};
+ghost use Rattle.lines.specs.Lines.{isField, areFields, areFrame, kindBy, kindOf};
 use crate::Kind;
 use crate::digits;
 
@@ -12,6 +12,9 @@ pub const SPACE: u8 = b' ';
 
 // How many characters a field takes, with the space before it.
 pub const FIELD: usize = 3;
+
+// How many characters an ID takes, with the space before it.
+pub const ID: usize = 4;
 
 // Whether three characters are one space and two hex digits.
 fn is_field(space: u8, high: u8, low: u8) -> bool
@@ -36,6 +39,22 @@ pub fn are_fields(rest: &[u8]) -> bool
     at == n
 }
 
+// Whether characters are an ID and the hex bytes of a frame.
+pub fn are_frame(rest: &[u8]) -> bool
+    ensures { λ r. ⌜ r ≡ areFrame (now (rest .entry)) ⌝ }
+{
+    let n = rest.len();
+    if n < ID {
+        return false;
+    }
+    (rest[0] == SPACE)
+        & digits::is_digit(rest[1])
+        & digits::is_digit(rest[2])
+        & digits::is_digit(rest[3])
+        & are_fields(&rest[ID..])
+        & (n <= ID + FIELD * can::frame::CLASSIC)
+}
+
 // What a line says by its letter and what follows it.
 fn kind_by(letter: u8, rest: &[u8]) -> Kind
     ensures { λ r. ⌜ r ≡ kindBy letter (now (rest .entry)) ⌝ }
@@ -46,7 +65,11 @@ fn kind_by(letter: u8, rest: &[u8]) -> Kind
         return Kind::Bytes;
     }
     let power = (letter == b'P') & (n == 0);
-    if power { Kind::PowerOn } else { Kind::Other }
+    if power {
+        return Kind::PowerOn;
+    }
+    let frame = (letter == b'C') & are_frame(rest);
+    if frame { Kind::Frame } else { Kind::Other }
 }
 
 // Which kind a line is.

@@ -1,14 +1,18 @@
 ghost use mathlib.Core.Path.{_≡_};
 ghost use mathlib.Core.List.{_∷_};
-ghost use Prim.Native.Nat.{_+_, _*_, _≤_};
+ghost use Prim.Native.Nat.{_+_, _*_, _%_, _≤_};
 ghost use lib.ListN.{length, take};
 ghost use Rattle.words.specs.Over.{put};
+ghost use Rattle.can.specs.Frames.{frameBytes, frameIn};
 ghost use Rattle.lines.specs.Digits.{digitsOf, decimal};
 ghost use Rattle.lines.specs.Lines.{space, fieldCharacters};
-ghost use Rattle.lines.specs.Prints.{spelled, numberRoom};
+ghost use Rattle.lines.specs.Prints.{spelled, unspaced, spelledFrame, spelledFrames, numberRoom};
 use crate::digits;
 use crate::line::FIELD;
 use crate::line::SPACE;
+
+// The character between the ID of a frame and its data.
+const COLON: u8 = b':';
 
 // Prints a byte after one space.
 fn byte(value: u8, out: &mut [u8], at: usize)
@@ -43,4 +47,57 @@ pub fn number(n: u64, out: &mut [u8], at: usize) -> usize
     let k = io::decimal(n, &mut text);
     words::copy(out, at, &text[..k], 0, k);
     at + k
+}
+
+// Prints bytes in hex, unspaced, and tells where they end.
+fn unspaced(bytes: &[u8], out: &mut [u8], at: usize) -> usize
+    requires { ⌜ at + length (now bytes) * 2 ≤ length (now out) ⌝ }
+    ensures { λ r. ⌜ (r ≡ at + length (now (bytes .entry)) * 2) × (now (out .exit) ≡ put (now (out .entry)) at (unspaced (now (bytes .entry)))) ⌝ }
+{
+    let n = bytes.len();
+    let mut end = at;
+    let mut i = 0;
+    while i < n {
+        let text = [digits::digit(bytes[i] / 16), digits::digit(bytes[i] % 16)];
+        words::copy(out, end, &text, 0, 2);
+        end += 2;
+        i += 1;
+    }
+    end
+}
+
+// Prints a frame after one space, as ID:data with its DLC bytes, and tells where it ends.
+fn frame(frame: &[u8], out: &mut [u8], at: usize) -> usize
+    requires { ⌜ (length (now frame) ≡ frameBytes) × (at + 2 * frameBytes ≤ length (now out)) ⌝ }
+    ensures { λ r. ⌜ (r ≡ at + length (spelledFrame (frameIn (now (frame .entry))))) × (r ≤ at + 2 * frameBytes) × (now (out .exit) ≡ put (now (out .entry)) at (spelledFrame (frameIn (now (frame .entry))))) ⌝ }
+{
+    let high = frame[0];
+    let low = frame[1];
+    let dlc = frame[2];
+    let head = [
+        SPACE,
+        digits::digit(high % 16),
+        digits::digit(low / 16),
+        digits::digit(low % 16),
+        COLON,
+    ];
+    words::copy(out, at, &head, 0, 5);
+    let end = can::frame::HEAD + words::least(dlc as usize, can::frame::CLASSIC);
+    unspaced(&frame[can::frame::HEAD..end], out, at + 5)
+}
+
+// Prints the frames of a reply, and tells where they end.
+pub fn frames(reply: &[u8], out: &mut [u8], at: usize) -> usize
+    requires { ⌜ (length (now reply) % frameBytes ≡ 0) × (at + 2 * length (now reply) ≤ length (now out)) ⌝ }
+    ensures { λ r. ⌜ (r ≡ at + length (spelledFrames (now (reply .entry)))) × (r ≤ at + 2 * length (now (reply .entry))) × (now (out .exit) ≡ put (now (out .entry)) at (spelledFrames (now (reply .entry)))) ⌝ }
+{
+    let n = reply.len();
+    let mut end = at;
+    let mut i = 0;
+    while i < n {
+        let next = i + can::frame::BYTES;
+        end = frame(&reply[i..next], out, end);
+        i = next;
+    }
+    end
 }

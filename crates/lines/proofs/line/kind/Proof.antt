@@ -4,8 +4,8 @@ use native.Mathlib.Omega.{arith}
 use mathlib.Core.Path.{_∙_, ap}
 use mathlib.Core.List.{List}
 use Prim.Native.Nat.{ℕ, _-_}
-use lib.ListN.{length, getD, drop, length-drop}
-use lib.Seq.{take-all}
+use lib.ListN.{length, getD}
+use Rattle.words.proofs.Slices.{to-the-end}
 use Rattle.lines.specs.Lines.{kindBy}
 use Rattle.lines.proofs.Lines.{kind-empty, kind-within, kind-beyond}
 use Rattle.lines.proofs.line.kind.Statement.{statement}
@@ -21,5 +21,5 @@ kind-spec =
     (λ c. search needs)
     (λ c. search needs)
     (λ c κs. search needs)
-    (λ c. (c .kind-by .ensures) ∙ ap (λ (l : List ℕ). kindBy (getD (c .before .before .before .before .before .before .args .line .now) 0 0) l) (take-all (length (c .before .before .before .before .before .before .args .line .now) - 1) (drop 1 (c .before .before .before .before .before .before .args .line .now)) (simp length-drop (omega arith))) ∙ kind-within (c .before .before .before .before .before .before .args .line .now) (omega arith) (c .before .before .before .if2 .taken))
+    (λ c. (c .kind-by .ensures) ∙ ap (λ (l : List ℕ). kindBy (getD (c .before .before .before .before .before .before .args .line .now) 0 0) l) (to-the-end 1 (c .before .before .before .before .before .before .args .line .now)) ∙ kind-within (c .before .before .before .before .before .before .args .line .now) (omega arith) (c .before .before .before .if2 .taken))
     (λ c. kind-beyond (c .before .before .before .args .line .now) (c .if2 .left)))

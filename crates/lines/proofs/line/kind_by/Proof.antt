@@ -11,4 +11,6 @@ kind-by-spec =
     (λ c κs. search needs)
     (λ c. rw (← (c .before .are-fields .ensures), (c .if1 .taken)) refl)
     (λ c. rw (← (c .before .before .are-fields .ensures), (c .before .if1 .left), (c .if2 .taken)) refl)
-    (λ c. rw (← (c .before .before .are-fields .ensures), (c .before .if1 .left), (c .if2 .left)) refl))
+    (λ c κs. search needs)
+    (λ c. rw (← (c .before .before .before .before .are-fields .ensures), ← (c .before .are-frame .ensures), (c .before .before .before .if1 .left), (c .before .before .if2 .left), (c .if3 .taken)) refl)
+    (λ c. rw (← (c .before .before .before .before .are-fields .ensures), ← (c .before .are-frame .ensures), (c .before .before .before .if1 .left), (c .before .before .if2 .left), (c .if3 .left)) refl))

@@ -1,0 +1,37 @@
+ghost use mathlib.Core.Path.{_≡_};
+ghost use Prim.Native.Nat.{_*_, _≤_};
+ghost use lib.Dec.{T};
+ghost use lib.ListN.{length};
+ghost use Rattle.words.specs.Over.{put};
+ghost use Rattle.can.specs.Frames.{frameBytes};
+ghost use Rattle.lines.specs.Lines.{fieldCharacters, areFields, fields, areFrame, frameWritten};
+use crate::digits;
+use crate::line::FIELD;
+use crate::line::ID;
+
+// Puts the bytes that hex bytes write at the front of a slice, and tells how many they are.
+fn bytes(rest: &[u8], out: &mut [u8]) -> usize
+    requires { ⌜ T (areFields (now rest)) × (length (now rest) ≤ fieldCharacters * length (now out)) ⌝ }
+    ensures { λ r. ⌜ (r ≡ length (fields (now (rest .entry)))) × (now (out .exit) ≡ put (now (out .entry)) 0 (fields (now (rest .entry)))) ⌝ }
+{
+    let n = rest.len();
+    let mut count = 0;
+    let mut i = 0;
+    while i < n {
+        out[count] = digits::byte_in(rest[i + 1], rest[i + 2]);
+        count += 1;
+        i += FIELD;
+    }
+    count
+}
+
+// Makes the frame that an ID and data write.
+pub fn frame(rest: &[u8], out: &mut [u8])
+    requires { ⌜ T (areFrame (now rest)) × (length (now out) ≡ frameBytes) ⌝ }
+    ensures { λ _. ⌜ now (out .exit) ≡ frameWritten (now (rest .entry)) ⌝ }
+{
+    let mut data = [0u8; can::frame::CLASSIC];
+    let n = bytes(&rest[ID..], &mut data);
+    let id = words::number2(digits::value(rest[1]), digits::byte_in(rest[2], rest[3]));
+    can::say::put_frame(id, &data[..n], can::frame::CLASSIC, out, 0);
+}
