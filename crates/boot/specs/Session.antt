@@ -92,6 +92,18 @@ entered c step e a v = record {
 abbrev pub idle : Carrier → ℕ → Session
 idle c v = entered c 0 (idleExpects c) 0 v
 
+-- at another speed
+abbrev pub atSpeed : ℕ → Session → Session
+atSpeed v s = record {
+  carrier = s .carrier;
+  step = s .step;
+  taken = s .taken;
+  expected = s .expected;
+  address = s .address;
+  speed = v;
+  staged = s .staged;
+}
+
 -- running: the target as address, every other number as fresh
 abbrev pub running : ℕ → Session
 running a = entered Running 0 resting a freshSpeed

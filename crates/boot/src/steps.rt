@@ -3,7 +3,7 @@ ghost use Prim.Native.Nat.{_+_, _<_, _≤_};
 ghost use lib.ListN.{length, take};
 ghost use Rattle.words.specs.Over.{put};
 ghost use Rattle.memories.specs.Effects.{stagedBytes};
-ghost use Rattle.boot.specs.Session.{on, idleExpects, entered, idle, running, stepSound, sound, gathered, after};
+ghost use Rattle.boot.specs.Session.{on, idleExpects, entered, idle, atSpeed, running, stepSound, sound, gathered, after};
 ghost use Rattle.boot.specs.Promise.{PoweredOn};
 use crate::Carrier;
 use crate::Session;
@@ -71,11 +71,19 @@ impl Session {
         }
     }
 
-    // An idle session on a carrier.
-    fn idle(carrier: Carrier, speed: u8) -> Session
-        ensures { λ r. ⌜ r ≡ idle carrier speed ⌝ }
+    // The session gone idle on a carrier: its speed is kept, its address is 0.
+    fn idle(self, carrier: Carrier) -> Session
+        ensures { λ r. ⌜ r ≡ idle carrier (self .speed) ⌝ }
     {
-        Session::enter(carrier, 0, idle_expects(carrier), 0, speed)
+        Session::enter(carrier, 0, idle_expects(carrier), 0, self.speed)
+    }
+
+    // The session at another speed.
+    fn at_speed(mut self, speed: u8) -> Session
+        ensures { λ r. ⌜ r ≡ atSpeed speed self ⌝ }
+    {
+        self.speed = speed;
+        self
     }
 
     // A running session.
@@ -122,8 +130,8 @@ impl Session {
             Next::Stay => self,
             Next::Reset => Session::power_on(),
             Next::Gather => taken,
-            Next::GoIdle => Session::idle(carrier, self.speed),
-            Next::SetSpeed(speed) => Session::idle(carrier, speed),
+            Next::GoIdle => self.idle(carrier),
+            Next::SetSpeed(speed) => self.at_speed(speed).idle(carrier),
             Next::Enter(step, expected) => {
                 Session::enter(carrier, step, expected, self.address, self.speed)
             }
