@@ -12,10 +12,8 @@ use command::Next;
 // What carriers none and running expect.
 const RESTING: usize = 1;
 
-// The speed at power on, and the largest.
+// The speed at power on.
 const FRESH_SPEED: u8 = 2;
-
-const LARGEST_SPEED: u8 = 3;
 
 // What an idle session expects on a carrier.
 fn idle_expects(carrier: Carrier) -> usize
@@ -105,7 +103,7 @@ impl Session {
         ensures { λ r. ⌜ r ≡ sound self ⌝ }
     {
         (self.carrier <= crate::RUNNING)
-            & (self.speed <= LARGEST_SPEED)
+            & (self.speed <= can::LARGEST_SPEED)
             & step_sound(self.carrier, self.step, self.expected)
             & (self.taken < self.expected)
     }

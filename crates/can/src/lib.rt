@@ -22,6 +22,9 @@ pub const STEPS: u8 = 4;
 // What an idle session expects: one command frame.
 pub const ONE_FRAME: usize = 1;
 
+// The largest speed.
+pub const LARGEST_SPEED: u8 = 3;
+
 impl Step {
     // The number of the step.
     pub fn number(self) -> u8

@@ -7,6 +7,7 @@ ghost use Rattle.board.specs.declared.Region.the-variants.{Usd};
 ghost use Rattle.command.specs.Commands.{canCommands, lookUp};
 ghost use Rattle.command.specs.declared.Command.the-variants.{ReadMemory, WriteMemory, Erase, ProgramProtect, FirmwareCrc, Speed};
 ghost use Rattle.can.specs.Conversation.{dlcFits, dlcRight, erasedOrNot, selected, obeyed, commanded};
+use crate::LARGEST_SPEED;
 use crate::Step;
 use command::Command;
 use command::Decision;
@@ -34,9 +35,6 @@ const SELECTOR_OR_SPEED: usize = 2;
 
 // The DLC of a count alone.
 const COUNT_ONLY: usize = 1;
-
-// The largest speed.
-const LARGEST_SPEED: u8 = 3;
 
 // The largest number that a command may have: a byte's.
 const LARGEST_NUMBER: u16 = 0xFF;
