@@ -11,7 +11,6 @@ ghost use Rattle.can.specs.Frames.{classic, kindOf, headBytes, largestDl
 ghost use Rattle.can.specs.Conversation.{canRoom, commandBytes, pieceOf};
 use crate::frame::CLASSIC;
 use crate::frame::HEAD;
-use board::Board;
 use command::Reply;
 use command::code;
 use reply::ACK;
@@ -28,26 +27,7 @@ fn commands() -> Fixed
     ensures { λ r. ⌜ Holds r × Lists r commandBytes ⌝ }
 {
     Fixed {
-        bytes: [
-            ACK,
-            N_LESS_ONE,
-            Board::VERSION,
-            code::GET_COMMANDS,
-            code::GET_VERSION,
-            code::GET_DEVICE_ID,
-            code::READ_MEMORY,
-            code::JUMP,
-            code::WRITE_MEMORY,
-            code::ERASE,
-            code::PROGRAM_PROTECT,
-            code::PROGRAM_UNPROTECT,
-            code::ACCESS_PROTECT,
-            code::ACCESS_UNPROTECT,
-            code::FIRMWARE_CRC,
-            code::RESET_DEVICE,
-            code::SPEED,
-            ACK,
-        ],
+        bytes: reply::listing(N_LESS_ONE, code::SPEED, ACK),
         count: reply::LONGEST,
     }
 }

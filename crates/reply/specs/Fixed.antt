@@ -1,9 +1,11 @@
 -- Replies that are fixed bytes, and the most bytes of any reply.
 use Prim.Native.Nat.{ℕ, _+_, _≤_}
 use mathlib.Core.Path.{_≡_}
-use mathlib.Core.List.{List, [], _∷_, _++_}
+use mathlib.Core.List.{List, [], _∷_, _++_, map}
 use lib.ListN.{length, take}
 use Rattle.board.specs.Quantities.{largestCount}
+use Rattle.board.specs.Board.{identity}
+use Rattle.command.specs.Commands.{code, uartCommands}
 use Rattle.command.specs.Says.{ackByte}
 use Rattle.reply.specs.declared.Fixed.{Fixed}
 
@@ -19,6 +21,10 @@ fixedRoom = 18
 pub record Holds (f : Fixed) : Type 0 where
   pub there : f .count ≤ length (f .bytes)
   pub few : length (f .bytes) ≤ fixedRoom
+
+-- an answer to 0x00: ACK, a count, the version, the commands that both carriers have, and what two bytes say behind them
+abbrev pub listing : ℕ → ℕ → ℕ → List ℕ
+listing count first second = ackByte ∷ count ∷ identity .version ∷ map code uartCommands ++ first ∷ second ∷ []
 
 -- it is a carrier's answer to 0x00: what it tells of its commands, between two ACKs
 pub record Lists (f : Fixed) (list : List ℕ) : Type 0 where

@@ -11,11 +11,12 @@ ghost use Rattle.board.specs.Quantities.{largestCount};
 ghost use Rattle.crc.specs.Crc.{crc};
 ghost use Rattle.memories.specs.Memories.{Memories, memories, proper, bytesOf};
 ghost use Rattle.command.specs.Says.{ackByte, says, sayable, fixed, Said};
-ghost use Rattle.reply.specs.Fixed.{replyRoom, fixedRoom, Holds, Lists};
+ghost use Rattle.reply.specs.Fixed.{replyRoom, fixedRoom, listing, Holds, Lists};
 use board::Board;
 use board::LessOne;
 use board::Region;
 use command::Reply;
+use command::code;
 
 // A fixed reply: bytes, of which the first few are the reply, and how many these are.
 pub struct Fixed {
@@ -90,6 +91,32 @@ const DEVICE: [u8; LONGEST] = [
     0,
     0,
 ];
+
+// The bytes of an answer to 0x00, with a count and two bytes behind the commands that both carriers have.
+pub fn listing(count: u8, first: u8, second: u8) -> [u8; LONGEST]
+    ensures { λ r. ⌜ r ≡ listing count first second ⌝ }
+{
+    [
+        ACK,
+        count,
+        Board::VERSION,
+        code::GET_COMMANDS,
+        code::GET_VERSION,
+        code::GET_DEVICE_ID,
+        code::READ_MEMORY,
+        code::JUMP,
+        code::WRITE_MEMORY,
+        code::ERASE,
+        code::PROGRAM_PROTECT,
+        code::PROGRAM_UNPROTECT,
+        code::ACCESS_PROTECT,
+        code::ACCESS_UNPROTECT,
+        code::FIRMWARE_CRC,
+        code::RESET_DEVICE,
+        first,
+        second,
+    ]
+}
 
 // Writes ACK and x bytes of a memory.
 fn say_bytes(memory: &[u8], at: usize, x: usize, buffer: &mut [u8]) -> usize

@@ -6,14 +6,15 @@ ghost use Rattle.memories.specs.Memories.{memories, proper};
 ghost use Rattle.command.specs.Says.{says, sayable, Said};
 ghost use Rattle.reply.specs.Fixed.{Holds, Lists};
 ghost use Rattle.uart.specs.Conversation.{uartRoom, commandBytes};
-use board::Board;
 use command::Reply;
-use command::code;
 use reply::ACK;
 use reply::Fixed;
 
 // The room that a reply may need.
 pub const ROOM: usize = reply::ROOM;
+
+// The bytes of the answer to 0x00, one less than on CAN.
+const LISTED: usize = reply::LONGEST - 1;
 
 // n, which counts version and commands.
 const N: u8 = 0x0E;
@@ -23,27 +24,8 @@ fn commands() -> Fixed
     ensures { λ r. ⌜ Holds r × Lists r commandBytes ⌝ }
 {
     Fixed {
-        bytes: [
-            ACK,
-            N,
-            Board::VERSION,
-            code::GET_COMMANDS,
-            code::GET_VERSION,
-            code::GET_DEVICE_ID,
-            code::READ_MEMORY,
-            code::JUMP,
-            code::WRITE_MEMORY,
-            code::ERASE,
-            code::PROGRAM_PROTECT,
-            code::PROGRAM_UNPROTECT,
-            code::ACCESS_PROTECT,
-            code::ACCESS_UNPROTECT,
-            code::FIRMWARE_CRC,
-            code::RESET_DEVICE,
-            ACK,
-            0,
-        ],
-        count: 17,
+        bytes: reply::listing(N, ACK, 0),
+        count: LISTED,
     }
 }
 
