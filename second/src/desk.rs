@@ -2,6 +2,7 @@
 
 use crate::calls::{can_frame_in_place, uart_byte_in_place, CAN_REPLY_BYTES};
 use crate::frame::{frame_bytes, FRAME_BYTES, FRAME_HEAD_BYTES};
+use crate::hex::{print_byte, print_digit, print_fields};
 use crate::line::{Line, LINE_BYTES, LINE_CHARACTERS};
 use crate::memories::Store;
 use crate::session::Session;
@@ -12,9 +13,6 @@ const CHUNK_BYTES: usize = 65_536;
 
 /// The character that ends a line.
 const LF: u8 = b'\n';
-
-/// The capital hex digits by value.
-const HEX_DIGITS: &[u8; 16] = b"0123456789ABCDEF";
 
 /// A board on the desk, with the line that is still coming in.
 #[derive(Debug)]
@@ -95,10 +93,8 @@ impl Desk {
         let memories = &mut self.store.lend();
         for byte in bytes {
             let called = uart_byte_in_place(&mut self.session, *byte, memories, &mut self.reply);
-            for replied in &self.reply[..called.map_or(0, |taken| taken.length)] {
-                answers.push(b' ');
-                print_byte(*replied, answers);
-            }
+            let length = called.map_or(0, |taken| taken.length);
+            print_fields(&self.reply[..length], answers);
         }
     }
 
@@ -141,17 +137,6 @@ fn send(answers: &mut Vec<u8>, output: &mut impl Write) -> io::Result<()> {
         answers.clear();
     }
     Ok(())
-}
-
-/// Prints a hex digit.
-fn print_digit(value: u8, answers: &mut Vec<u8>) {
-    answers.push(HEX_DIGITS[usize::from(value & 0x0F)]);
-}
-
-/// Prints a byte as two hex digits.
-fn print_byte(byte: u8, answers: &mut Vec<u8>) {
-    print_digit(byte >> 4, answers);
-    print_digit(byte, answers);
 }
 
 /// Prints a frame after a space as ID:data, the ID three digits and the DLC bytes unspaced.

@@ -16,6 +16,7 @@ pub mod session;
 
 mod can;
 mod effects;
+mod hex;
 mod reply;
 mod uart;
 

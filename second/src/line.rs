@@ -1,12 +1,10 @@
 //! The lines that `desk` reads.
 
 use crate::frame::FRAME_DATA_BYTES;
+use crate::hex::{hex_value, read_fields, BYTE_FIELD};
 
 /// The most characters in a line, its LF not counted.
 pub const LINE_CHARACTERS: usize = 800;
-
-/// The characters of a byte field: a space and two hex digits.
-pub const BYTE_FIELD: usize = 3;
 
 /// The most byte fields that fit in a line.
 pub const LINE_BYTES: usize = LINE_CHARACTERS / BYTE_FIELD;
@@ -42,7 +40,7 @@ impl<'b> Line<'b> {
 
 /// Reads the fields of a `U` line: one or more bytes.
 fn read_uart<'b>(fields: &[u8], space: &'b mut [u8; LINE_BYTES]) -> Option<Line<'b>> {
-    let bytes = read_bytes(fields, space)?;
+    let bytes = read_fields(fields, space)?;
     (!bytes.is_empty()).then_some(Line::Uart(bytes))
 }
 
@@ -53,29 +51,6 @@ fn read_can<'b>(fields: &[u8], space: &'b mut [u8; LINE_BYTES]) -> Option<Line<'
         .strip_prefix(b" ")?
         .iter()
         .try_fold(0, |id, digit| Some(id << 4 | u16::from(hex_value(*digit)?)))?;
-    let bytes = read_bytes(byte_fields, space)?;
+    let bytes = read_fields(byte_fields, space)?;
     (bytes.len() <= FRAME_DATA_BYTES).then_some(Line::Can(id, bytes))
-}
-
-/// Reads byte fields to the end of the line.
-fn read_bytes<'b>(fields: &[u8], space: &'b mut [u8; LINE_BYTES]) -> Option<&'b [u8]> {
-    let count = fields.len() / BYTE_FIELD;
-    let whole = fields.len().is_multiple_of(BYTE_FIELD);
-    let bytes = space.get_mut(..count).filter(|_| whole)?;
-    for (byte, field) in bytes.iter_mut().zip(fields.chunks_exact(BYTE_FIELD)) {
-        let [b' ', high, low] = *field else {
-            return None;
-        };
-        *byte = hex_value(high)? << 4 | hex_value(low)?;
-    }
-    Some(bytes)
-}
-
-/// The value of a capital hex digit.
-fn hex_value(digit: u8) -> Option<u8> {
-    match digit {
-        b'0'..=b'9' => Some(digit - b'0'),
-        b'A'..=b'F' => Some(digit - b'A' + 10),
-        _ => None,
-    }
 }

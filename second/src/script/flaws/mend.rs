@@ -2,7 +2,8 @@
 
 use super::{fields, removed, Change, DIGITS, HIGH_BIT};
 use crate::frame::FRAME_DATA_BYTES;
-use crate::line::{BYTE_FIELD, ID_FIELD, LINE_BYTES};
+use crate::hex::BYTE_FIELD;
+use crate::line::{ID_FIELD, LINE_BYTES};
 
 /// The number of hex digits in a byte field.
 const BYTE_DIGITS: usize = BYTE_FIELD - 1;
