@@ -13,6 +13,7 @@ pub mod memories;
 pub mod refused;
 pub mod script;
 pub mod session;
+pub mod tally;
 
 mod can;
 mod effects;

@@ -24,10 +24,11 @@ mod states;
 mod talk;
 mod watch;
 
-pub use coverage::Coverage;
 pub use kind::Kind;
 pub use pen::{Answer, Written};
 
+use crate::tally::Tally;
+use coverage::Coverage;
 use deck::Deck;
 use host::Host;
 
@@ -65,9 +66,9 @@ impl Script {
     }
 
     /// What the script reaches.
-    pub fn coverage(&self) -> Coverage {
+    pub fn coverage(&self) -> Tally {
         let mut coverage = Coverage::of(self.kind);
         watch::watch(&self.text(), &mut coverage);
-        coverage
+        coverage.into_tally()
     }
 }

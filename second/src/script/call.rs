@@ -37,7 +37,32 @@ pub struct Call<'c> {
     pub asked: Option<Asked>,
 }
 
-impl Call<'_> {
+impl<'c> Call<'c> {
+    /// A call that gave this, with the sessions and the memories before and after it.
+    pub fn of(
+        input: Input<'c>,
+        (before, after): (&'c Session, &'c Session),
+        (was, is): (&'c Store, &'c Store),
+        called: Result<Taken, Cause>,
+    ) -> Call<'c> {
+        let accepted = called.ok();
+        let ended = accepted.and_then(|_| ended_by(input, before, after));
+        let asked = ended.as_ref().and_then(|(step, bytes)| {
+            let refused = accepted.and_then(|taken| taken.refused);
+            asked(*step, bytes, input, before.address, refused)
+        });
+        Call {
+            input,
+            before,
+            after,
+            was,
+            is,
+            called,
+            ended,
+            asked,
+        }
+    }
+
     /// The carrier of the input.
     pub fn carrier(&self) -> Carrier {
         match self.input {
@@ -97,7 +122,7 @@ impl Call<'_> {
 }
 
 /// The step that an accepted call ended, with all bytes that it had taken.
-pub fn ended_by(input: Input, before: &Session, after: &Session) -> Option<(Step, Vec<u8>)> {
+fn ended_by(input: Input, before: &Session, after: &Session) -> Option<(Step, Vec<u8>)> {
     let step = before.sound_step()?;
     let taken = &before.staged[..before.taken];
     match (step, input) {
@@ -111,6 +136,26 @@ pub fn ended_by(input: Input, before: &Session, after: &Session) -> Option<(Step
             bytes.truncate(before.expected);
             (after.sound_step() != Some(step)).then_some((step, bytes))
         }
+        _ => None,
+    }
+}
+
+/// What an ended step asked; a gathering that a frame ended early asked nothing.
+fn asked(
+    step: Step,
+    bytes: &[u8],
+    input: Input,
+    address: u32,
+    refused: Option<Refused>,
+) -> Option<Asked> {
+    let early = matches!(
+        refused,
+        Some(Refused::OtherId | Refused::DlcZero | Refused::ExtraBytes)
+    );
+    match (step, input) {
+        (Step::Uart(step), _) => Some(Asked::by_uart(step, bytes, address)),
+        (Step::Can(CanStep::Idle), Input::Frame(id, data)) => Some(Asked::by_frame(id, data)),
+        (Step::Can(step), _) if !early => Asked::by_gathering(step, bytes, address),
         _ => None,
     }
 }

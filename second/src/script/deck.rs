@@ -64,13 +64,7 @@ impl Deck {
 
     /// Any goal, the heavier the likelier.
     fn weighted(&self, host: &mut Host) -> usize {
-        let all = self.goals.iter().map(|goal| goal.weight).sum();
-        let mut left = host.dice.below(all);
-        let falls_on = |goal: &Goal| {
-            let falls = left < goal.weight;
-            left = left.saturating_sub(goal.weight);
-            falls
-        };
-        self.goals.iter().position(falls_on).unwrap_or(0)
+        let weights = self.goals.iter().map(|goal| goal.weight);
+        host.dice.by_weight(weights)
     }
 }

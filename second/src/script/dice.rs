@@ -68,6 +68,17 @@ impl Dice {
         values[self.below(values.len())]
     }
 
+    /// The place of one of the given weights, the heavier the likelier.
+    pub fn by_weight(&mut self, mut weights: impl Iterator<Item = usize> + Clone) -> usize {
+        let mut left = self.below(weights.clone().sum());
+        let falls_on = |weight| {
+            let falls = left < weight;
+            left = left.saturating_sub(weight);
+            falls
+        };
+        weights.position(falls_on).unwrap_or(0)
+    }
+
     /// Any byte.
     pub fn byte(&mut self) -> u8 {
         self.number() as u8

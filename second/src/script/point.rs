@@ -26,20 +26,27 @@ pub enum Sight<'s> {
     Call(&'s Call<'s>),
 }
 
+/// What reaches a point.
+enum Test {
+    /// A line that passes.
+    Line(Box<dyn Fn(&SeenLine) -> bool>),
+    /// A power on that ends a session that passes.
+    PowerOn(Box<dyn Fn(&Session) -> bool>),
+    /// A call that passes.
+    Call(Box<dyn Fn(&Call) -> bool>),
+}
+
 /// A point with its name.
 pub struct Point {
     /// What is reached, in a few words.
     pub name: String,
-    test: Box<dyn Fn(&Sight) -> bool>,
+    test: Test,
 }
 
 impl Point {
     /// A point that some line reaches.
     pub fn of_line(name: impl Into<String>, test: impl Fn(&SeenLine) -> bool + 'static) -> Point {
-        Point::of(name, move |sight| match sight {
-            Sight::Line(seen) => test(seen),
-            _ => false,
-        })
+        Point::of(name, Test::Line(Box::new(test)))
     }
 
     /// A point that some power on reaches.
@@ -47,30 +54,29 @@ impl Point {
         name: impl Into<String>,
         test: impl Fn(&Session) -> bool + 'static,
     ) -> Point {
-        Point::of(name, move |sight| match sight {
-            Sight::PowerOn(session) => test(session),
-            _ => false,
-        })
+        Point::of(name, Test::PowerOn(Box::new(test)))
     }
 
     /// A point that some call reaches.
     pub fn of_call(name: impl Into<String>, test: impl Fn(&Call) -> bool + 'static) -> Point {
-        Point::of(name, move |sight| match sight {
-            Sight::Call(call) => test(call),
-            _ => false,
-        })
+        Point::of(name, Test::Call(Box::new(test)))
     }
 
     /// Tells whether what was seen reaches the point.
     pub fn is_reached_by(&self, sight: &Sight) -> bool {
-        (self.test)(sight)
+        match (&self.test, sight) {
+            (Test::Line(test), Sight::Line(seen)) => test(seen),
+            (Test::PowerOn(test), Sight::PowerOn(session)) => test(session),
+            (Test::Call(test), Sight::Call(call)) => test(call),
+            _ => false,
+        }
     }
 
-    /// A point that whatever passes the test reaches.
-    fn of(name: impl Into<String>, test: impl Fn(&Sight) -> bool + 'static) -> Point {
+    /// A point of this name and test.
+    fn of(name: impl Into<String>, test: Test) -> Point {
         Point {
             name: name.into(),
-            test: Box::new(test),
+            test,
         }
     }
 }

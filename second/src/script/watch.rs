@@ -1,15 +1,13 @@
 //! A script is run on a fresh board while every line, power on and call is seen.
 
-use super::asked::Asked;
-use super::call::{ended_by, Call, Input};
+use super::call::{Call, Input};
 use super::coverage::Coverage;
 use super::own_board::OwnBoard;
 use super::point::{SeenLine, Sight};
 use crate::calls::{Cause, Taken};
 use crate::line::{Line, LINE_BYTES};
 use crate::memories::Store;
-use crate::refused::Refused;
-use crate::session::{CanStep, Session, Step};
+use crate::session::{Session, Step};
 
 /// A board under watch, and its memories before the last call.
 struct Watch<'c> {
@@ -75,45 +73,12 @@ impl Watch<'_> {
 
     /// Sees a call; memories can change only where it ends a step.
     fn call(&mut self, input: Input, before: &Session, called: Result<Taken, Cause>) {
-        let accepted = called.ok();
-        let ended = accepted.and_then(|_| ended_by(input, before, &self.board.session));
-        let asked = ended.as_ref().and_then(|(step, bytes)| {
-            let refused = accepted.and_then(|taken| taken.refused);
-            asked(*step, bytes, input, before.address, refused)
-        });
-        let call = Call {
-            input,
-            before,
-            after: &self.board.session,
-            was: &self.was,
-            is: &self.board.store,
-            called,
-            ended,
-            asked,
-        };
+        let after = &self.board.session;
+        let stores = (&self.was, &self.board.store);
+        let call = Call::of(input, (before, after), stores, called);
         self.coverage.see(&Sight::Call(&call));
         if call.ended.is_some() {
             self.was.clone_from(&self.board.store);
         }
-    }
-}
-
-/// What an ended step asked; a gathering that a frame ended early asked nothing.
-fn asked(
-    step: Step,
-    bytes: &[u8],
-    input: Input,
-    address: u32,
-    refused: Option<Refused>,
-) -> Option<Asked> {
-    let early = matches!(
-        refused,
-        Some(Refused::OtherId | Refused::DlcZero | Refused::ExtraBytes)
-    );
-    match (step, input) {
-        (Step::Uart(step), _) => Some(Asked::by_uart(step, bytes, address)),
-        (Step::Can(CanStep::Idle), Input::Frame(id, data)) => Some(Asked::by_frame(id, data)),
-        (Step::Can(step), _) if !early => Asked::by_gathering(step, bytes, address),
-        _ => None,
     }
 }
