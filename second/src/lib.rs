@@ -14,6 +14,7 @@ pub mod refused;
 pub mod script;
 pub mod session;
 pub mod tally;
+pub mod vectors;
 
 mod can;
 mod effects;

@@ -11,4 +11,5 @@ mod scripts;
 mod sessions;
 mod traps;
 mod uart_talk;
+mod vectors;
 mod worked_talk;
