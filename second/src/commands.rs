@@ -85,7 +85,7 @@ impl EraseSelector {
     const LAST_COUNT: u16 = 31;
 
     /// The first special selector.
-    const FIRST_SPECIAL: u16 = 0xFFFB;
+    pub const FIRST_SPECIAL: u16 = 0xFFFB;
 
     /// Reads a selector from its two bytes, high first.
     pub fn from_bytes(high: u8, low: u8) -> EraseSelector {

@@ -45,6 +45,26 @@ impl Expects {
         }
     }
 
+    /// The least number that the step may expect.
+    pub fn least(&self) -> usize {
+        self.least
+    }
+
+    /// The greatest number that the step may expect.
+    pub fn greatest(&self) -> usize {
+        self.greatest
+    }
+
+    /// The numbers that the step may expect.
+    pub fn numbers(&self) -> impl Iterator<Item = usize> {
+        (self.least..=self.greatest).step_by(self.apart)
+    }
+
+    /// Tells whether the step may not expect every number between its least and its greatest.
+    pub fn has_gaps(&self) -> bool {
+        self.apart > 1
+    }
+
     /// Tells whether the step may expect this number.
     pub fn allows(&self, expected: usize) -> bool {
         (self.least..=self.greatest).contains(&expected)

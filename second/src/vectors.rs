@@ -2,9 +2,17 @@
 
 mod adler;
 mod answer;
+mod deck;
+mod draft;
+mod edges;
 mod fill;
+mod last;
 mod line;
+mod lists;
+mod makers;
 mod run;
+mod spoil;
+mod telling;
 mod vector;
 
 pub use adler::adler32;
@@ -13,3 +21,13 @@ pub use fill::Fill;
 pub use line::{MOST_FLASH, MOST_REPLY, MOST_SRAM, MOST_USD, VECTOR_CHARACTERS};
 pub use run::run;
 pub use vector::{Before, Input, Memory, Staged, Usd, Vector};
+
+use crate::script::dice::Dice;
+use deck::Deck;
+
+/// The vectors of a seed, so many.
+pub fn random(seed: u64, count: usize) -> Vec<Vector> {
+    let mut dice = Dice::seeded(seed);
+    let mut deck = Deck::shuffled(&mut dice);
+    (0..count).map(|_| deck.deal(&mut dice)).collect()
+}

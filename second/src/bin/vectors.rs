@@ -1,28 +1,64 @@
-//! The program `vectors`: answers the vectors of single calls that it is given.
+//! The program `vectors`: prints random vectors of single calls, or answers those that it is given.
 
-use second::vectors::run;
+use second::vectors::{random, run};
 use std::env;
-use std::io;
+use std::io::{self, Write};
 use std::process::ExitCode;
 
+/// What is wanted of the program.
+enum Wanted {
+    /// So many vectors of a seed.
+    Generate(u64, usize),
+    /// The answers to the vectors on standard input.
+    Run,
+}
+
 /// How the program is run.
-const USAGE: &str = "vectors run";
+const USAGE: &str = "vectors generate SEED COUNT | vectors run";
 
 /// The exit status of a run with other words.
 const MISUSED: u8 = 2;
 
-/// Answers the vectors on standard input, or prints how the program is run.
+/// Reads the words behind the program's name.
+fn wanted(words: &[String]) -> Option<Wanted> {
+    let words: Vec<&str> = words.iter().map(String::as_str).collect();
+    match words[..] {
+        ["generate", seed, count] => {
+            let (seed, count) = (seed.parse().ok()?, count.parse().ok()?);
+            Some(Wanted::Generate(seed, count))
+        }
+        ["run"] => Some(Wanted::Run),
+        _ => None,
+    }
+}
+
+/// Prints the vectors.
+fn generate(seed: u64, count: usize) -> io::Result<ExitCode> {
+    let vectors = random(seed, count);
+    let text: Vec<u8> = vectors.iter().flat_map(|vector| vector.line()).collect();
+    io::stdout().write_all(&text)?;
+    Ok(ExitCode::SUCCESS)
+}
+
+/// Answers the vectors on standard input.
+fn answer() -> io::Result<ExitCode> {
+    run(&mut io::stdin().lock(), &mut io::stdout().lock())?;
+    Ok(ExitCode::SUCCESS)
+}
+
+/// Does what is wanted, or prints how the program is run.
 fn main() -> ExitCode {
     let words: Vec<String> = env::args().skip(1).collect();
-    if words != ["run"] {
-        eprintln!("{USAGE}");
-        return ExitCode::from(MISUSED);
-    }
-    match run(&mut io::stdin().lock(), &mut io::stdout().lock()) {
-        Ok(()) => ExitCode::SUCCESS,
-        Err(error) => {
-            eprintln!("{error}");
-            ExitCode::FAILURE
+    let done = match wanted(&words) {
+        Some(Wanted::Generate(seed, count)) => generate(seed, count),
+        Some(Wanted::Run) => answer(),
+        None => {
+            eprintln!("{USAGE}");
+            return ExitCode::from(MISUSED);
         }
-    }
+    };
+    done.unwrap_or_else(|error| {
+        eprintln!("{error}");
+        ExitCode::FAILURE
+    })
 }

@@ -1,5 +1,7 @@
 //! Bytes by rule, so that a few numbers say a whole memory.
 
+use crate::script::dice::Dice;
+
 /// Byte i is (seed + stride * i) mod 256.
 #[derive(Clone, Copy, Debug, Default, PartialEq, Eq)]
 pub struct Fill {
@@ -15,6 +17,31 @@ impl Fill {
         Fill {
             seed: byte,
             stride: 0,
+        }
+    }
+
+    /// Any rule.
+    pub fn any(dice: &mut Dice) -> Fill {
+        Fill {
+            seed: dice.byte(),
+            stride: dice.byte(),
+        }
+    }
+
+    /// Any rule by which each byte differs from the one before it.
+    pub fn varied(dice: &mut Dice) -> Fill {
+        Fill {
+            seed: dice.byte(),
+            stride: dice.byte() | 1,
+        }
+    }
+
+    /// The rule by which this byte stands at an index.
+    pub fn through(index: usize, byte: u8, stride: u8) -> Fill {
+        let risen = stride.wrapping_mul(index as u8);
+        Fill {
+            seed: byte.wrapping_sub(risen),
+            stride,
         }
     }
 

@@ -7,6 +7,7 @@ mod causes;
 mod crc;
 mod desk_lines;
 mod effects;
+mod random_vectors;
 mod scripts;
 mod sessions;
 mod traps;
