@@ -1,8 +1,8 @@
 //! Random scripts for `desk`: a host talks to a board of its own, aiming at every rule, and its
 //! lines are then run under watch to see what they reach.
 
-mod asked;
-mod call;
+pub(crate) mod asked;
+pub(crate) mod call;
 mod coverage;
 mod deck;
 pub(crate) mod dice;
@@ -18,8 +18,8 @@ mod noise;
 mod own_board;
 mod pen;
 pub(crate) mod places;
-mod point;
-mod points;
+pub(crate) mod point;
+pub(crate) mod points;
 mod states;
 mod talk;
 mod watch;

@@ -2,6 +2,7 @@
 
 mod adler;
 mod answer;
+mod coverage;
 mod deck;
 mod draft;
 mod edges;
@@ -10,13 +11,16 @@ mod last;
 mod line;
 mod lists;
 mod makers;
+mod points;
 mod run;
+mod seen;
 mod spoil;
 mod telling;
 mod vector;
 
 pub use adler::adler32;
 pub use answer::Answer;
+pub use coverage::coverage;
 pub use fill::Fill;
 pub use line::{MOST_FLASH, MOST_REPLY, MOST_SRAM, MOST_USD, VECTOR_CHARACTERS};
 pub use run::run;

@@ -1,6 +1,6 @@
 //! The program `vectors`: prints random vectors of single calls, or answers those that it is given.
 
-use second::vectors::{random, run};
+use second::vectors::{coverage, random, run};
 use std::env;
 use std::io::{self, Write};
 use std::process::ExitCode;
@@ -32,12 +32,15 @@ fn wanted(words: &[String]) -> Option<Wanted> {
     }
 }
 
-/// Prints the vectors.
+/// Prints the vectors and what they reach; a point that is not reached is a failure.
 fn generate(seed: u64, count: usize) -> io::Result<ExitCode> {
     let vectors = random(seed, count);
+    let coverage = coverage(&vectors);
     let text: Vec<u8> = vectors.iter().flat_map(|vector| vector.line()).collect();
     io::stdout().write_all(&text)?;
-    Ok(ExitCode::SUCCESS)
+    io::stderr().write_all(coverage.to_string().as_bytes())?;
+    let failed = coverage.missing().count() > 0;
+    Ok(ExitCode::from(u8::from(failed)))
 }
 
 /// Answers the vectors on standard input.

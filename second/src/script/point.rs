@@ -72,6 +72,11 @@ impl Point {
         }
     }
 
+    /// Tells whether a call can reach the point.
+    pub fn is_of_call(&self) -> bool {
+        matches!(self.test, Test::Call(_))
+    }
+
     /// A point of this name and test.
     fn of(name: impl Into<String>, test: Test) -> Point {
         Point {

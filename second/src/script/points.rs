@@ -18,6 +18,7 @@ mod writes;
 use super::call::Call;
 use super::kind::{Carrier, Kind};
 use super::point::Point;
+pub use steps::name;
 
 /// The points of a kind of script.
 pub fn of(kind: Kind) -> Vec<Point> {
@@ -35,6 +36,11 @@ pub fn of(kind: Kind) -> Vec<Point> {
     sessions::add_power_on(&mut points);
     lines::add(kind, &mut points);
     points.list
+}
+
+/// The points that some call of a mixed script reaches.
+pub fn of_calls() -> impl Iterator<Item = Point> {
+    of(Kind::Mixed).into_iter().filter(Point::is_of_call)
 }
 
 /// Adds the points of a carrier: those that both have, and its own.

@@ -9,9 +9,11 @@ use crate::frame::{FRAME_BYTES, FRAME_DATA_BYTES, HIGHEST_ID};
 use crate::script::dice::Dice;
 use crate::session::{Step, UartStep, CARRIER_RUNNING, HIGHEST_SPEED};
 
-/// A lent memory: its right length and the most that a vector can give it.
+/// A lent memory by name, its right length and the most that a vector can give it.
 #[derive(Clone, Copy)]
 pub struct Lent {
+    /// Its name.
+    pub name: &'static str,
     /// Its right length.
     pub right: usize,
     /// The most bytes that a vector can give it.
@@ -23,16 +25,19 @@ pub struct Lent {
 /// The three lent memories.
 pub const LENT: [Lent; 3] = [
     Lent {
+        name: "flash",
         right: FLASH.bytes,
         most: MOST_FLASH,
         of: |vector| &mut vector.flash,
     },
     Lent {
+        name: "SRAM",
         right: SRAM.bytes,
         most: MOST_SRAM,
         of: |vector| &mut vector.sram,
     },
     Lent {
+        name: "USD",
         right: USD.bytes,
         most: MOST_USD,
         of: |vector| &mut vector.usd.memory,

@@ -1,9 +1,10 @@
-//! Random vectors: the same seed gives the same ones, and their lines are read back.
+//! Random vectors: the same seed gives the same ones, their lines are read back, and they reach
+//! every point.
 
 use crate::vectors::vectors;
-use second::vectors::{adler32, random, Answer, Input, Vector};
+use second::vectors::{adler32, coverage, random, Answer, Input, Vector};
 
-/// Vectors enough to have some of every maker.
+/// Vectors enough to reach every point.
 const ENOUGH: usize = 4_500;
 
 /// The lines of vectors.
@@ -54,12 +55,33 @@ fn refused_vectors_leave_everything() {
     }
 }
 
-/// The program prints the vectors of a seed.
+/// The vectors of another seed than the program's test reach every point.
 #[test]
-fn the_program_prints_vectors() {
-    let output = vectors(&["generate", "1", "90"], b"");
-    assert_eq!(output.stdout, lines(&random(1, 90)));
+fn vectors_reach_every_point() {
+    let coverage = coverage(&random(200, ENOUGH));
+    let missing: Vec<&str> = coverage.missing().collect();
+    assert_eq!(missing, [""; 0]);
+}
+
+/// The program prints the vectors of a seed, and on standard error what they reach.
+#[test]
+fn the_program_prints_vectors_and_coverage() {
+    let output = vectors(&["generate", "1", "4500"], b"");
+    assert_eq!(output.stdout, lines(&random(1, ENOUGH)));
+    let report = String::from_utf8(output.stderr).unwrap();
+    let (reached, all) = report.lines().last().unwrap().split_once(" of ").unwrap();
+    assert_eq!(all, format!("{reached} points reached"));
     assert_eq!(output.status.code(), Some(0));
+}
+
+/// Few vectors do not reach every point, which is a failure.
+#[test]
+fn a_point_not_reached_fails() {
+    let output = vectors(&["generate", "1", "9"], b"");
+    let report = String::from_utf8(output.stderr).unwrap();
+    assert!(report.contains("not reached: UART: cause 4 alone\n"));
+    assert_eq!(output.stdout, lines(&random(1, 9)));
+    assert_eq!(output.status.code(), Some(1));
 }
 
 /// The program answers each vector by one line.
