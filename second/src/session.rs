@@ -60,9 +60,9 @@ impl Expects {
         (self.least..=self.greatest).step_by(self.apart)
     }
 
-    /// Tells whether the step may not expect every number between its least and its greatest.
-    pub fn has_gaps(&self) -> bool {
-        self.apart > 1
+    /// How far apart the numbers are that the step may expect.
+    pub fn apart(&self) -> usize {
+        self.apart
     }
 
     /// Tells whether the step may expect this number.

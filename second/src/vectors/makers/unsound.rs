@@ -71,7 +71,16 @@ fn add_step(deck: &mut Deck, step: Step) {
             wrong(before, dice);
         });
     }
-    if expects.has_gaps() {
+    if expects.least() < expects.greatest() {
+        add_unsound(deck, at_step, move |before, _| {
+            before.expected = expects.greatest() + expects.apart();
+        });
+        add_unsound(deck, at_step, move |before, _| {
+            before.expected = expects.least() - expects.apart();
+            before.taken = 0;
+        });
+    }
+    if expects.apart() > 1 {
         add_unsound(deck, at_step, move |before, dice| {
             let gaps = (expects.greatest() - expects.least()) / 2;
             before.expected = expects.least() + 2 * dice.below(gaps) + 1;

@@ -112,7 +112,18 @@ fn add_step(points: &mut Points, step: Step) {
     );
     let taken = format!("{of}: taken not below expected");
     add_field(points, taken, Flaw::Taken, is_in);
-    if expects.has_gaps() {
+    if expects.least() < expects.greatest() {
+        let many = format!("{of}: expected for one X too many");
+        add_field(points, many, Flaw::Expected, move |before| {
+            is_in(before) && before.expected == expects.greatest() + expects.apart()
+        });
+        points.any(format!("unsound: {of}: expected for X = 0"), move |seen| {
+            let before = &seen.vector.before;
+            let none = before.expected == expects.least() - expects.apart();
+            is_refused(seen) && is_in(before) && none && before.taken == 0
+        });
+    }
+    if expects.apart() > 1 {
         let between = format!("{of}: expected between two that are");
         add_field(points, between, Flaw::Expected, move |before| {
             is_in(before) && before.expected < expects.greatest()
