@@ -13,8 +13,8 @@ use Rattle.words.proofs.Over.{over-none, put-one, put-then}
 use Rattle.words.specs.Choice.{if_then_else_}
 use Rattle.memories.specs.Effects.{effect}
 use Rattle.command.specs.Says.{says}
-use Rattle.can.specs.Frames.{frameBytes, frameIn}
-use Rattle.can.proofs.Cutting.{framed-whole}
+use Rattle.frames.specs.Frames.{classic, frameBytes, frameIn}
+use Rattle.frames.proofs.Cutting.{framed-whole}
 use Rattle.boot.specs.Session.{after}
 use Rattle.boot.specs.Causes.{accepts}
 use Rattle.boot.specs.Calls.{State, powered, Input, Power, Byte, Framed, commandsOf, bears, causeFor, decide, sent, perform, refused, call}
@@ -84,12 +84,12 @@ byte-told s b flash sram usd lent room l t at end out out' e w =
     input-told (λ (n : ℕ). Byte n b) s flash sram usd lent room l t at end out out' (omega arith) w
 
 -- the reply to a frame is whole frames
-pub frame-whole : (room : ℕ) (f : List ℕ) (p : State) → length (call (Framed room f) p .reply) % frameBytes ≡ 0
+pub frame-whole : (room : ℕ) (f : List ℕ) (p : State) → length (call (Framed room f) p .reply) % frameBytes classic ≡ 0
 unfolding call perform sent
 frame-whole room f p = by-cause (accepts (causeFor (Framed room f) p))
   where
     by-cause : (a : Bool)
-        → length ((if a then perform (Framed room f) p (decide (Framed room f) (p .session) (p .memories .usd)) else refused (causeFor (Framed room f) p) p) .reply) % frameBytes ≡ 0
+        → length ((if a then perform (Framed room f) p (decide (Framed room f) (p .session) (p .memories .usd)) else refused (causeFor (Framed room f) p) p) .reply) % frameBytes classic ≡ 0
     by-cause true = framed-whole (bears (p .session) (frameIn f .id)) (says (commandsOf (Framed room f)) (decide (Framed room f) (p .session) (p .memories .usd) .reply) (p .memories))
     by-cause false = refl
 

@@ -20,7 +20,7 @@ use lines::print;
 use lines::written;
 
 // The room for a reply: what either carrier needs.
-const ROOM: usize = 363;
+const ROOM: usize = can::say::ROOM;
 
 // The character that ends a line, and those that begin an answer.
 pub const LINE_FEED: u8 = b'\n';
@@ -97,7 +97,7 @@ fn tell_frame(
     ensures { λ r. ⌜ Tells (tells (Framed deskRoom (frameWritten (now (rest .entry))) ∷ []) (stateOf session (now (flash .entry)) (now (sram .entry)) (now (usd .entry)))) at (now (out .entry)) (r .end) (now (out .exit)) (stateOf (r .session) (now (flash .exit)) (now (sram .exit)) (now (usd .exit))) ⌝ }
     ensures { λ r. ⌜ r .end ≤ at + deskRoom * length (now (rest .entry)) ⌝ }
 {
-    let mut input = [0u8; can::frame::BYTES];
+    let mut input = [0u8; frames::BYTES];
     written::frame(rest, &mut input);
     let mut buffer = [0u8; ROOM];
     let taken = session.take_frame(&input, flash, sram, usd, &mut buffer);

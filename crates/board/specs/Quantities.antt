@@ -30,6 +30,16 @@ largestLongCount = 65536
 abbrev pub oneLess : ℕ → LessOne
 oneLess x = lessOne (x - 1)
 
+-- an address is sent in so many bytes, a sector number or a selector in so many, and a count that one byte cannot send
+abbrev pub addressBytes : ℕ
+addressBytes = 4
+
+abbrev pub selectorBytes : ℕ
+selectorBytes = 2
+
+abbrev pub longCountBytes : ℕ
+longCountBytes = 2
+
 -- the sector of this number
 abbrev pub sector : ℕ → Sector
 sector k = record { 0 = k }
@@ -73,16 +83,16 @@ indexed bytes = map sector bytes
 abbrev pub firstIndexed : ℕ → List ℕ → List Sector
 firstIndexed x bytes = indexed (take x bytes)
 
+-- the bytes of x sector numbers
+abbrev pub numbersBytes : ℕ → ℕ
+numbersBytes x = selectorBytes * x
+
 -- the sectors that a list of two-byte numbers names, and the first x of them
 abbrev pub numbered : List ℕ → List Sector
 numbered bytes = map sector (pairs bytes)
 
 abbrev pub firstNumbered : ℕ → List ℕ → List Sector
-firstNumbered x bytes = numbered (take (2 * x) bytes)
-
--- an address is sent in so many bytes
-abbrev pub addressBytes : ℕ
-addressBytes = 4
+firstNumbered x bytes = numbered (take (numbersBytes x) bytes)
 
 -- how far an address lies behind a region's first one
 abbrev pub offsetIn : Extent → Address → ℕ

@@ -4,7 +4,7 @@ use mathlib.Core.Bool.{Bool, not}
 use mathlib.Core.List.{List}
 use lib.ListN.{getD}
 use lib.Dec.{eqb}
-use Rattle.words.specs.Bytes.{bit}
+use Rattle.words.specs.Bytes.{bit, byteBits}
 use Rattle.words.specs.Over.{within}
 use Rattle.board.specs.Board.{layout, sectors}
 use Rattle.board.specs.declared.Sector.{Sector}
@@ -13,14 +13,21 @@ use Rattle.board.specs.declared.Sector.{Sector}
 abbrev pub protectionOn : List ℕ → Bool
 protectionOn u = not (eqb (getD u (layout .protection) 0) (layout .«protection_off»))
 
--- where the byte with a sector's bit stands
+-- sector k is bit k mod 8 of byte 8 + k/8
 abbrev pub bitByte : Sector → ℕ
-bitByte k = layout .«sector_bits» + k .0 / 8
+bitByte k = layout .«sector_bits» + k .0 / byteBits
 
--- sector k is bit k mod 8 of byte 8 + k/8, and 0 means write-protected
+abbrev pub bitPlace : Sector → ℕ
+bitPlace k = k .0 % byteBits
+
+-- 0 means write-protected
 unfoldable pub writeProtected : List ℕ → Sector → Bool
-writeProtected u k = eqb (bit (getD u (bitByte k) 0) (k .0 % 8)) 0
+writeProtected u k = eqb (bit (getD u (bitByte k) 0) (bitPlace k)) 0
+
+-- how many bytes hold the sectors' bits
+abbrev pub bitBytes : ℕ
+bitBytes = sectors .count / byteBits
 
 -- a byte holds no sector's bit
 abbrev pub besideBits : ℕ → Bool
-besideBits i = not (within (layout .«sector_bits») (sectors .count / 8) i)
+besideBits i = not (within (layout .«sector_bits») bitBytes i)

@@ -14,8 +14,8 @@ use Rattle.command.specs.declared.Decision.{Decision}
 use Rattle.command.proofs.Good.{Good}
 use Rattle.can.specs.Steps as C
 use Rattle.can.specs.Conversation as CC
-use Rattle.can.specs.Frames.{classic, frameIn, frameOf, isFrame, carried, framed}
-use Rattle.can.proofs.Frames.{carried-length}
+use Rattle.frames.specs.Frames.{classic, frameIn, frameOf, isFrame, carried, framed}
+use Rattle.frames.proofs.Frames.{carried-length}
 use Rattle.boot.specs.Session.{progress, sound, gathered, after}
 use Rattle.boot.specs.Decide.{connected, decideByte, decideFrame}
 use Rattle.boot.specs.Calls.{Input, Byte, Framed, carrierOf, brings, commandsOf, decide, sent, perform}

@@ -13,7 +13,7 @@ use Rattle.uart.specs.Steps as U
 use Rattle.uart.specs.Conversation as UC
 use Rattle.uart.proofs.Good.{complete-good}
 use Rattle.can.specs.Steps as C
-use Rattle.can.specs.Frames.{Frame, carried}
+use Rattle.frames.specs.Frames.{Frame, carried}
 use Rattle.can.proofs.Good as CG
 use Rattle.boot.specs.Session.{on, progress, sound}
 use Rattle.boot.specs.Decide.{connected, decideByte, decideFrame}

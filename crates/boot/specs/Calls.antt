@@ -16,7 +16,7 @@ use Rattle.command.specs.declared.Reply.the-variants.{Silence}
 use Rattle.uart.specs.Conversation as UC
 use Rattle.can.specs.Steps as C
 use Rattle.can.specs.Conversation as CC
-use Rattle.can.specs.Frames.{classic, frameIn, carried, isFrame, framed}
+use Rattle.frames.specs.Frames.{classic, frameIn, carried, isFrame, framed}
 use Rattle.boot.specs.Session.{fresh, on, progress, gathered, after}
 use Rattle.boot.specs.Decide.{decideByte, decideFrame}
 use Rattle.boot.specs.Causes.{causeOf, accepts}
@@ -35,7 +35,7 @@ pub record State : Type 0 where
 abbrev pub powered : Memories → State
 powered m = record { session = fresh; memories = m }
 
--- an input: power on; a UART byte; a CAN frame's slice; the last two with the room lent for the reply
+-- an input: power on; the room lent for the reply and a UART byte; that room and a CAN frame's slice
 pub data Input : Type 0 where
   Power : Input
   Byte : ℕ → ℕ → Input
@@ -108,7 +108,7 @@ call i p =
     if accepts (causeFor i p) then perform i p (decide i (p .session) (p .memories .usd))
     else refused (causeFor i p) p
 
--- what comes of an input, refused or not, is decided so; a refused one does nothing
+-- what is done: as decided where the call is accepted, and nothing where it is refused
 unfoldable pub done : Input → State → Decision
 done i p = if accepts (causeFor i p) gives decide i (p .session) (p .memories .usd) else answer Silence Stay
 

@@ -1,10 +1,7 @@
 -- The five causes, in their order: document 01, "Calls and the five causes".
 use Prim.Native.Nat.{ℕ}
-use mathlib.Core.Bool.{Bool, true, false, not, _&&_}
-use lib.Dec.{eqb}
+use mathlib.Core.Bool.{Bool, true, false, not}
 use Rattle.words.specs.Choice.{if_then_else_}
-use Rattle.board.specs.Board.{extentOf}
-use Rattle.board.specs.declared.Region.the-variants.{Flash, Sram, Usd}
 use Rattle.boot.specs.Session.{on, sound}
 use Rattle.boot.specs.declared.Carrier.the-variants.{Running}
 use Rattle.boot.specs.declared.Cause.{Cause}
@@ -28,11 +25,6 @@ accepts ShortReply = false
 accepts BadFrame = false
 accepts UnsoundSession = false
 accepts BoardRunning = false
-
--- flash, SRAM and USD of these lengths have theirs
-abbrev pub lengthsRight : ℕ → ℕ → ℕ → Bool
-lengthsRight flash sram usd =
-    eqb flash (extentOf Flash .bytes) && eqb sram (extentOf Sram .bytes) && eqb usd (extentOf Usd .bytes)
 
 -- the first cause that holds, of memories with their lengths, room for the reply, a well-formed frame and a session
 unfoldable pub causeOf : Bool → Bool → Bool → Session → Cause

@@ -11,7 +11,7 @@ use Rattle.uart.specs.Steps as U
 use Rattle.uart.specs.Conversation as UC
 use Rattle.can.specs.Steps as C
 use Rattle.can.specs.Conversation as CC
-use Rattle.can.specs.Frames.{Frame}
+use Rattle.frames.specs.Frames.{Frame}
 use Rattle.boot.specs.Session.{on, progress}
 use Rattle.boot.specs.declared.Carrier.{Carrier}
 use Rattle.boot.specs.declared.Carrier.the-variants.{None, Uart, Can}

@@ -6,7 +6,7 @@ use lib.ListN.{length, replicate}
 use lib.Dec.{eqb, leb, ltb}
 use Rattle.words.specs.Choice.{if_then_else_}
 use Rattle.memories.specs.Effects.{stagedBytes}
-use Rattle.command.specs.Progress.{Progress, fitting, stagedWith}
+use Rattle.command.specs.Progress.{Progress, progressAt, fitting, stagedWith}
 use Rattle.command.specs.declared.Next.{Next}
 use Rattle.command.specs.declared.Next.the-variants.{Stay, Reset, Gather, GoIdle, SetSpeed, Enter, EnterAt, Run}
 use Rattle.uart.specs.Steps as U
@@ -31,7 +31,7 @@ on c s = eqb (s .carrier) (carrierNo c)
 abbrev pub resting : ℕ
 resting = 1
 
--- what an idle session expects on a carrier
+-- what an idle session expects on a carrier (on none and running nothing goes idle)
 abbrev pub idleExpects : Carrier → ℕ
 idleExpects None = resting
 idleExpects Uart = U.complementedByte
@@ -110,7 +110,7 @@ running a = entered Running 0 resting a freshSpeed
 
 -- how far a session has come with its step
 abbrev pub progress : Session → Progress
-progress s = record { taken = s .taken; expected = s .expected; address = s .address; staged = s .staged }
+progress s = progressAt (s .taken) (s .expected) (s .address) (s .staged)
 
 -- bytes are taken, as far as they are expected
 abbrev pub gathered : List ℕ → Session → Session
@@ -126,11 +126,11 @@ gathered new s = record {
 
 -- the session after an input of a carrier, given the session with the input's bytes taken
 unfoldable pub after : Carrier → Session → Next → Session → Session
-after c taken Stay s = s
-after c taken Reset s = fresh
-after c taken Gather s = taken
-after c taken GoIdle s = idle c (s .speed)
-after c taken (SetSpeed v) s = idle c v
-after c taken (Enter step e) s = entered c step e (s .address) (s .speed)
-after c taken (EnterAt step e a) s = entered c step e a (s .speed)
-after c taken (Run a) s = running a
+after c held Stay s = s
+after c held Reset s = fresh
+after c held Gather s = held
+after c held GoIdle s = idle c (s .speed)
+after c held (SetSpeed v) s = idle c v
+after c held (Enter step e) s = entered c step e (s .address) (s .speed)
+after c held (EnterAt step e a) s = entered c step e a (s .speed)
+after c held (Run a) s = running a

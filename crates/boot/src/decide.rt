@@ -5,7 +5,7 @@ ghost use lib.Dec.{T};
 ghost use lib.ListN.{length};
 ghost use Rattle.board.specs.Board.{extentOf};
 ghost use Rattle.board.specs.declared.Region.the-variants.{Usd};
-ghost use Rattle.can.specs.Frames.{classic, frameOf};
+ghost use Rattle.frames.specs.Frames.{classic, frameOf};
 ghost use Rattle.boot.specs.Session.{sound, gathered};
 ghost use Rattle.boot.specs.Decide.{unconnected, decideByte, decideFrame};
 use crate::Carrier;

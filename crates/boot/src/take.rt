@@ -3,13 +3,13 @@ ghost use mathlib.Core.Bool.{true};
 ghost use Prim.Native.Nat.{_≤_};
 ghost use lib.Dec.{T, leb};
 ghost use lib.ListN.{length};
-ghost use Rattle.memories.specs.Memories.{memories, proper};
+ghost use Rattle.memories.specs.Memories.{memories, lengthsRight, proper};
 ghost use Rattle.memories.specs.Effects.{fits};
 ghost use Rattle.uart.specs.Conversation as UC;
 ghost use Rattle.can.specs.Conversation as CC;
-ghost use Rattle.can.specs.Frames.{classic, isFrame};
+ghost use Rattle.frames.specs.Frames.{classic, isFrame};
 ghost use Rattle.boot.specs.Session.{sound};
-ghost use Rattle.boot.specs.Causes.{accepts, lengthsRight, causeOf};
+ghost use Rattle.boot.specs.Causes.{accepts, causeOf};
 ghost use Rattle.boot.specs.Calls.{bears};
 ghost use Rattle.boot.specs.Promise.{left, givenByte, givenFrame, performed, refusedTaken, Performed, Leaves, Took};
 use crate::Carrier;
@@ -89,7 +89,7 @@ impl Session {
         self.cause(
             lengths_right(flash, sram, usd),
             can::say::ROOM <= room,
-            can::frame::is_frame(frame),
+            frames::is_frame(frame),
         )
     }
 
@@ -173,8 +173,8 @@ impl Session {
         requires { ⌜ T (sound self) × T (proper (memories (now flash) (now sram) (now usd))) × (CC.canRoom ≤ length (now buffer)) × T (isFrame classic (now frame)) ⌝ }
         ensures { λ r. ⌜ Leaves (performed (givenFrame self (now (frame .entry)) (now (flash .entry)) (now (sram .entry)) (now (usd .entry)) (now (buffer .entry)))) (now (buffer .entry)) (left r (now (flash .exit)) (now (sram .exit)) (now (usd .exit)) (now (buffer .exit))) ⌝ }
     {
-        let id = can::frame::id(frame);
-        let carried = can::frame::carried(frame);
+        let id = frames::id(frame);
+        let carried = frames::carried(frame);
         let taken = self.gather(carried);
         let decision = self.decide_frame(id, carried, taken, usd);
         let reply = decision.reply;

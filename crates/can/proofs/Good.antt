@@ -1,10 +1,9 @@
 -- What a CAN frame decides can be carried out and said.
-use mathlib.Core.List.{List, [], _∷_}
-use Prim.Native.Nat.{ℕ, zero, suc, _+_, _<_}
+use mathlib.Core.List.{List}
+use Prim.Native.Nat.{ℕ, _<_}
 use native.Mathlib.Omega.{arith}
 use lib.Dec.{T, eqb→eq}
-use lib.ListN.{length, getD, take, drop}
-use lib.Seq.{getD-drop}
+use lib.ListN.{length, getD, drop}
 use Rattle.board.specs.Quantities.{addressBytes}
 use Rattle.command.specs.Progress.{Progress, progressAt, stagedWith}
 use Rattle.command.specs.declared.Command.{Command}
@@ -19,7 +18,7 @@ use Rattle.command.specs.declared.Verdict.the-variants.{Fine, No}
 use Rattle.command.proofs.Holds.{Holds, either, split, judged-either, unless-either}
 use Rattle.command.proofs.Good.{Good, told, refusal, reading-good, writing-good, erasing-good, protecting-good, jumping-good, summing-good}
 use Rattle.can.specs.Conversation.{dlcFits, countSent, erasedOrNot, selected, obeyed, commanded, gathering, unlessExtra, decided, heard}
-use Rattle.can.specs.Frames.{Frame, headBytes, frameIn, carried, counted}
+use Rattle.frames.specs.Frames.{Frame, carried, counted}
 use Rattle.can.specs.Steps.{expects, numbersIn}
 use Rattle.can.specs.declared.Step.{Step}
 use Rattle.can.specs.declared.Step.the-variants.{Idle, WriteData, EraseList, ProtectList}
@@ -91,14 +90,3 @@ pub heard-good : (s : Step) (p : Progress) → T (expects s (p .expected)) → (
 unfolding heard
 heard-good s p t usd f b =
     decided-good s (progressAt (p .taken) (p .expected) (p .address) (stagedWith p (carried f))) t usd (counted f) b
-
--- a list of bytes, cut short, is still one of bytes
-still-byte : (n : ℕ) (l : List ℕ) → ((i : ℕ) → getD l i 0 < 256) → (i : ℕ) → getD (take n l) i 0 < 256
-still-byte zero l h i = omega arith
-still-byte (suc n) [] h i = omega arith
-still-byte (suc n) (x ∷ l) h zero = h zero
-still-byte (suc n) (x ∷ l) h (suc i) = still-byte n l (λ j. h (suc j)) i
-
--- what a slice of bytes carries behind an address is a byte, where it holds a frame
-pub carried-byte : (l : List ℕ) → ((i : ℕ) → getD l i 0 < 256) → getD (carried (frameIn l)) addressBytes 0 < 256
-carried-byte l h = still-byte (frameIn l .dlc) (drop headBytes l) (λ i. rw getD-drop (h (headBytes + i))) addressBytes

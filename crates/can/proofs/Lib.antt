@@ -1,6 +1,5 @@
 pub mod Steps
 mod Carried
-pub mod Frames
 pub mod Good
 pub mod Rulings
-pub mod Cutting
+pub mod Alone

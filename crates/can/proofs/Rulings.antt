@@ -18,7 +18,7 @@ use Rattle.command.specs.declared.Reply.the-variants.{Silence, Ack, AckAck, Ack
 use Rattle.command.specs.declared.Why.the-variants.{BadComplement, UnknownCommand, AccessProtected, OtherFrame, BadRange, BadSector, UnsupportedErase, BadSpeed}
 use Rattle.command.proofs.Rulings.{Ruling, _is_, decisions, papers, lockedUsd}
 use Rattle.can.specs.Conversation as C
-use Rattle.can.specs.Frames.{classic, frameIn, framed}
+use Rattle.frames.specs.Frames.{classic, frameIn, framed}
 use Rattle.can.specs.Steps.{stepNo}
 use Rattle.can.specs.declared.Step.{Step}
 use Rattle.can.specs.declared.Step.the-variants.{Idle, WriteData, EraseList, ProtectList}

@@ -7,7 +7,7 @@ use lib.Dec.{eqb, leb}
 use Rattle.words.specs.Bytes.{number}
 use Rattle.words.specs.Choice.{if_then_else_}
 use Rattle.board.specs.Board.{address, identity}
-use Rattle.board.specs.Quantities.{countOf, lessOne, oneLess, addressBytes}
+use Rattle.board.specs.Quantities.{countOf, lessOne, oneLess, addressBytes, selectorBytes, longCountBytes}
 use Rattle.board.specs.declared.Address.{Address}
 use Rattle.memories.specs.declared.Change.the-variants.{EraseAll}
 use Rattle.command.specs.Commands.{code, canCommands, lookUp}
@@ -28,7 +28,7 @@ use Rattle.command.specs.declared.Selector.the-variants.{Listed, Special, Impos
 use Rattle.command.specs.declared.Verdict.{Verdict}
 use Rattle.command.specs.declared.Verdict.the-variants.{Fine, No}
 use Rattle.command.specs.declared.Why.the-variants.{BadComplement, UnknownCommand, OtherFrame, BadRange, BadSpeed}
-use Rattle.can.specs.Frames.{Frame, classic, carried, counted}
+use Rattle.frames.specs.Frames.{Frame, classic, carried, counted}
 use Rattle.can.specs.Steps.{stepNo, expectedForNumbers, numbersIn}
 use Rattle.can.specs.declared.Step.{Step}
 use Rattle.can.specs.declared.Step.the-variants.{Idle, WriteData, EraseList, ProtectList}
@@ -54,15 +54,15 @@ abbrev pub dlcFits : Command → ℕ → Bool
 dlcFits GetCommands n = true
 dlcFits GetVersion n = true
 dlcFits GetDeviceId n = true
-dlcFits ReadMemory n = eqb n 5
-dlcFits Jump n = eqb n 4
-dlcFits WriteMemory n = eqb n 5
-dlcFits Erase n = eqb n 2
+dlcFits ReadMemory n = eqb n (addressBytes + 1)
+dlcFits Jump n = eqb n addressBytes
+dlcFits WriteMemory n = eqb n (addressBytes + 1)
+dlcFits Erase n = eqb n selectorBytes
 dlcFits ProgramProtect n = eqb n 1
 dlcFits ProgramUnprotect n = true
 dlcFits AccessProtect n = true
 dlcFits AccessUnprotect n = true
-dlcFits FirmwareCrc n = eqb n 6
+dlcFits FirmwareCrc n = eqb n (addressBytes + longCountBytes)
 dlcFits ResetDevice n = true
 dlcFits Speed n = eqb n 2
 

@@ -13,7 +13,7 @@ ghost use Rattle.command.specs.Progress.{progressAt};
 ghost use Rattle.command.specs.declared.Next.the-variants.{Gather};
 ghost use Rattle.command.specs.declared.Reply.the-variants.{Silence};
 ghost use Rattle.command.specs.declared.Why.the-variants.{BadRange, OtherFrame};
-ghost use Rattle.can.specs.Frames.{classic, frameOf};
+ghost use Rattle.frames.specs.Frames.{classic, frameOf};
 ghost use Rattle.can.specs.Steps.{stepOf, expects, expectedForNumbers};
 ghost use Rattle.can.specs.Conversation.{decided, bears};
 use crate::Step;

@@ -1,5 +1,4 @@
 pub mod conversation;
-pub mod frame;
 mod obey;
 pub mod say;
 

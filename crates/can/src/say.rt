@@ -1,18 +1,17 @@
 ghost use mathlib.Core.Path.{_≡_};
-ghost use Prim.Native.Nat.{_+_, _≤_, _<_};
+ghost use Prim.Native.Nat.{_≤_, _<_};
 ghost use lib.Dec.{T};
 ghost use lib.ListN.{length};
-ghost use Rattle.words.specs.Lists.{cut};
-ghost use Rattle.words.specs.Over.{put};
 ghost use Rattle.memories.specs.Memories.{memories, proper};
 ghost use Rattle.command.specs.Says.{says, sayable, Said};
 ghost use Rattle.reply.specs.Fixed.{Holds, Lists};
-ghost use Rattle.can.specs.Frames.{classic, kindOf, headBytes, largestDlc, frame, frames, framed, firstAlone};
+ghost use Rattle.frames.specs.Frames.{classic, framed, firstAlone};
 ghost use Rattle.can.specs.Conversation.{canRoom, commandBytes, pieceOf};
-use crate::frame::CLASSIC;
-use crate::frame::HEAD;
 use command::Reply;
 use command::code;
+use frames::BYTES;
+use frames::CLASSIC;
+use frames::put;
 use reply::ACK;
 use reply::Fixed;
 
@@ -30,42 +29,6 @@ fn commands() -> Fixed
         bytes: reply::listing(N_LESS_ONE, code::SPEED, ACK),
         count: reply::LONGEST,
     }
-}
-
-// Writes a frame of an ID and a size: unused data bytes are 0.
-pub fn put_frame(id: u16, bytes: &[u8], size: usize, buffer: &mut [u8], at: usize)
-    requires { ⌜ (length (now bytes) ≤ size) × (size ≤ largestDlc) × (at + (headBytes + size) ≤ length (now buffer)) ⌝ }
-    ensures { λ _. ⌜ now (buffer .exit) ≡ put (now (buffer .entry)) at (frame (kindOf size) id (now (bytes .entry))) ⌝ }
-{
-    let n = bytes.len();
-    let head = [(id / 256 % 256) as u8, (id % 256) as u8, (n % 256) as u8];
-    words::copy(buffer, at, &head, 0, HEAD);
-    words::copy(buffer, at + HEAD, bytes, 0, n);
-    words::fill(buffer, at + HEAD + n, size - n, 0);
-}
-
-// Writes bytes in frames of an ID and a size, so many to a frame and a last with what remains, and tells where they end.
-fn put_frames(
-    id: u16,
-    bytes: &[u8],
-    piece: usize,
-    size: usize,
-    buffer: &mut [u8],
-    at: usize,
-) -> usize
-    requires { ⌜ (0 < piece) × (piece ≤ size) × (size ≤ largestDlc) × (at + length (frames (kindOf size) id (cut piece (now bytes))) ≤ length (now buffer)) ⌝ }
-    ensures { λ r. ⌜ (r ≡ at + length (frames (kindOf size) id (cut piece (now (bytes .entry))))) × (now (buffer .exit) ≡ put (now (buffer .entry)) at (frames (kindOf size) id (cut piece (now (bytes .entry))))) ⌝ }
-{
-    let n = bytes.len();
-    let mut end = at;
-    let mut i = 0;
-    while i < n {
-        let next = words::least(n - i, piece) + i;
-        put_frame(id, &bytes[i..next], size, buffer, end);
-        end += HEAD + size;
-        i = next;
-    }
-    end
 }
 
 // How many bytes of a reply go into one frame.
@@ -86,8 +49,8 @@ fn put_reply(id: u16, bytes: &[u8], piece: usize, buffer: &mut [u8]) -> usize
     if bytes.len() == 0 {
         return 0;
     }
-    put_frame(id, &bytes[..1], CLASSIC, buffer, 0);
-    put_frames(id, &bytes[1..], piece, CLASSIC, buffer, HEAD + CLASSIC)
+    put::put_frame(id, &bytes[..1], CLASSIC, buffer, 0);
+    put::put_frames(id, &bytes[1..], piece, CLASSIC, buffer, BYTES)
 }
 
 // Writes a reply that can be given in frames of an ID, and tells its length.

@@ -62,6 +62,7 @@ afterWrite Flash = GoIdle
 afterWrite Sram = GoIdle
 afterWrite Usd = Reset
 
+-- (a write to nowhere never gets here)
 unfoldable pub writeAt : Place → ℕ → Decision
 writeAt (In r at) x = alter Ack (Write r at x) (afterWrite r)
 writeAt Nowhere x = nack BadRange
@@ -129,7 +130,7 @@ resetting = answer AckAck Reset
 unfoldable pub jumping : Address → Decision
 jumping a = if jumpable a gives answer Ack (Run (a .0)) else nack BadAddress
 
--- 0xAC: whole sectors, from a sector's start, all inside flash
+-- 0xAC: whole sectors, from a sector's start, all inside flash (a sector's start is never in SRAM or USD)
 unfoldable pub sumAt : Place → ℕ → Decision
 sumAt (In Flash at) n = answer (Crc at n) GoIdle
 sumAt (In Sram at) n = nack BadRange

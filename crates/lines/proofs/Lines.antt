@@ -14,9 +14,10 @@ use Rattle.words.specs.Bytes.{number}
 use Rattle.words.specs.Over.{put}
 use Rattle.words.proofs.Over.{put-front, put-all}
 use Rattle.words.proofs.Tests.{both-left, both-right}
-use Rattle.can.specs.Frames.{classic, frameBytes, frame}
-use Rattle.can.proofs.Cutting.{length-frame}
-use Rattle.lines.specs.Digits.{isDigit, valueOf, byteIn}
+use Rattle.frames.specs.Frames.{classic, frameBytes, frame}
+use Rattle.frames.proofs.Cutting.{length-frame}
+use Rattle.words.specs.Hex.{valueOf}
+use Rattle.lines.specs.Digits.{isDigit, byteIn}
 use Rattle.lines.specs.Lines.{space, letterU, letterP, letterC, mostCharacters, isField, areFields, fields, areFrame, idIn, frameWritten, kindBy, kindOf}
 use Rattle.lines.specs.declared.Kind.{Kind}
 use Rattle.lines.specs.declared.Kind.the-variants.{Bytes, Frame, PowerOn, Other}
@@ -132,7 +133,7 @@ data-fits l g =
     omega arith
 
 -- the bytes of the data and the ID make the frame that is written
-pub frame-made : (l m lent : List ℕ) (n id : ℕ) → FrameGood l → length m ≡ frameBytes → length lent ≡ 8
+pub frame-made : (l m lent : List ℕ) (n id : ℕ) → FrameGood l → length m ≡ frameBytes classic → length lent ≡ 8
     → n ≡ length (fields (drop 4 l)) → id ≡ number (valueOf (getD l 1 0) ∷ byteIn (getD l 2 0) (getD l 3 0) ∷ [])
     → put m 0 (frame classic id (take n (put lent 0 (fields (drop 4 l))))) ≡ frameWritten l
 frame-made l m lent n id h e k c i =

@@ -13,7 +13,7 @@ use borrow.Author.Tests.{leb-true, leb-false}
 use Rattle.words.specs.Bytes.{number}
 use Rattle.words.proofs.Slices.{take-two}
 use Rattle.words.proofs.Pieces.{cut-more}
-use Rattle.can.specs.Frames.{frameBytes, frameIn, carried}
+use Rattle.frames.specs.Frames.{classic, frameBytes, frameIn, carried}
 use Rattle.words.specs.Over.{put}
 use Rattle.words.proofs.Over.{put-then}
 use Rattle.lines.specs.Digits.{digitOf, digitsOf}
@@ -102,17 +102,17 @@ module _ (l : List ℕ) (e : length l ≡ 11) (b : getD l 1 0 < 256) (k : ℕ) (
 
 -- a turn: one frame is printed, and what remains is left
 pub record Turn (s : List ℕ) (i : ℕ) : Type 0 where
-  pub within : i + frameBytes ≤ length s
-  pub whole : length (take (i + frameBytes - i) (drop i s)) ≡ frameBytes
-  pub first : spelledFrames (drop i s) ≡ spelledFrame (frameIn (take (i + frameBytes - i) (drop i s))) ++ spelledFrames (drop (i + frameBytes) s)
+  pub within : i + frameBytes classic ≤ length s
+  pub whole : length (take (i + frameBytes classic - i) (drop i s)) ≡ frameBytes classic
+  pub first : spelledFrames (drop i s) ≡ spelledFrame (frameIn (take (i + frameBytes classic - i) (drop i s))) ++ spelledFrames (drop (i + frameBytes classic) s)
 
-pub turn : (s : List ℕ) (i : ℕ) → i < length s → length s % frameBytes ≡ 0 → i % frameBytes ≡ 0 → Turn s i
+pub turn : (s : List ℕ) (i : ℕ) → i < length s → length s % frameBytes classic ≡ 0 → i % frameBytes classic ≡ 0 → Turn s i
 turn s i h e f =
-    let w : i + frameBytes ≤ length s = omega arith in
+    let w : i + frameBytes classic ≤ length s = omega arith in
     let d = length-drop i s in
-    let a : i + frameBytes - i ≡ frameBytes = omega arith in
+    let a : i + frameBytes classic - i ≡ frameBytes classic = omega arith in
     record {
       within = w;
-      whole = rw a (length-take-le frameBytes (drop i s) (omega arith));
-      first = rw (a, cut-more frameBytes (drop i s) (omega arith) (omega arith), drop-drop frameBytes i s) refl;
+      whole = rw a (length-take-le (frameBytes classic) (drop i s) (omega arith));
+      first = rw (a, cut-more (frameBytes classic) (drop i s) (omega arith) (omega arith), drop-drop (frameBytes classic) i s) refl;
     }

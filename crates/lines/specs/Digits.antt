@@ -1,17 +1,14 @@
 -- Characters that are digits, and bytes and numbers written in them. Assumes nothing.
-use Prim.Native.Nat.{ℕ, zero, suc, _+_, _*_, _-_, _/_, _%_}
+use Prim.Native.Nat.{ℕ, zero, suc, _+_, _*_, _/_, _%_}
 use mathlib.Core.Bool.{Bool, _&&_, _||_}
 use mathlib.Core.List.{List, [], _∷_, _++_}
 use lib.Dec.{leb, ltb}
 use Rattle.words.specs.Choice.{if_then_else_}
+use Rattle.words.specs.Hex.{valueOf}
 
 -- a capital hex digit: 0 to 9, A to F
 abbrev pub isDigit : ℕ → Bool
 isDigit c = (leb 48 c && leb c 57) || (leb 65 c && leb c 70)
-
--- the value of a capital hex digit
-abbrev pub valueOf : ℕ → ℕ
-valueOf c = if leb c 57 then c - 48 else c - 55
 
 -- the digit of a value below 16
 abbrev pub digitOf : ℕ → ℕ

@@ -5,8 +5,9 @@ use mathlib.Core.List.{List, [], _∷_}
 use lib.Dec.{eqb, leb, ltb}
 use lib.ListN.{length, getD, drop}
 use Rattle.words.specs.Choice.{if_then_else_}
-use Rattle.can.specs.Frames.{classic, frame}
-use Rattle.lines.specs.Digits.{isDigit, valueOf, byteIn}
+use Rattle.frames.specs.Frames.{classic, frame}
+use Rattle.words.specs.Hex.{valueOf}
+use Rattle.lines.specs.Digits.{isDigit, byteIn}
 use Rattle.lines.specs.declared.Kind.{Kind}
 use Rattle.lines.specs.declared.Kind.the-variants.{Bytes, Frame, PowerOn, Other}
 

@@ -2,7 +2,7 @@
 use Prim.Native.Nat.{ℕ, _/_, _%_}
 use mathlib.Core.List.{List, [], _∷_, _++_}
 use Rattle.words.specs.Lists.{cut}
-use Rattle.can.specs.Frames.{Frame, frameBytes, frameIn, carried}
+use Rattle.frames.specs.Frames.{classic, Frame, frameBytes, frameIn, carried}
 use Rattle.lines.specs.Digits.{digitOf, digitsOf}
 use Rattle.lines.specs.Lines.{space, colon}
 
@@ -30,7 +30,7 @@ spelledEach [] = []
 spelledEach (l ∷ ls) = spelledFrame (frameIn l) ++ spelledEach ls
 
 abbrev pub spelledFrames : List ℕ → List ℕ
-spelledFrames reply = spelledEach (cut frameBytes reply)
+spelledFrames reply = spelledEach (cut (frameBytes classic) reply)
 
 -- the most digits of a line's number
 abbrev pub numberRoom : ℕ

@@ -1,7 +1,8 @@
 ghost use mathlib.Core.Path.{_≡_};
 ghost use Prim.Native.Nat.{_<_};
 ghost use lib.Dec.{T};
-ghost use Rattle.lines.specs.Digits.{isDigit, valueOf, digitOf, byteIn};
+ghost use Rattle.words.specs.Hex.{valueOf};
+ghost use Rattle.lines.specs.Digits.{isDigit, digitOf, byteIn};
 
 // Whether a character is a capital hex digit.
 pub fn is_digit(c: u8) -> bool

@@ -52,7 +52,7 @@ pub fn are_frame(rest: &[u8]) -> bool
         & digits::is_digit(rest[2])
         & digits::is_digit(rest[3])
         & are_fields(&rest[ID..])
-        & (n <= ID + FIELD * can::frame::CLASSIC)
+        & (n <= ID + FIELD * frames::CLASSIC)
 }
 
 // What a line says by its letter and what follows it.

@@ -3,7 +3,7 @@ ghost use mathlib.Core.List.{_∷_};
 ghost use Prim.Native.Nat.{_+_, _*_, _%_, _≤_};
 ghost use lib.ListN.{length, take};
 ghost use Rattle.words.specs.Over.{put};
-ghost use Rattle.can.specs.Frames.{frameBytes, frameIn};
+ghost use Rattle.frames.specs.Frames.{classic, frameBytes, frameIn};
 ghost use Rattle.lines.specs.Digits.{digitsOf, decimal};
 ghost use Rattle.lines.specs.Lines.{space, fieldCharacters};
 ghost use Rattle.lines.specs.Prints.{spelled, unspaced, spelledFrame, spelledFrames, numberRoom};
@@ -68,8 +68,8 @@ fn unspaced(bytes: &[u8], out: &mut [u8], at: usize) -> usize
 
 // Prints a frame after one space, as ID:data with its DLC bytes, and tells where it ends.
 fn frame(frame: &[u8], out: &mut [u8], at: usize) -> usize
-    requires { ⌜ (length (now frame) ≡ frameBytes) × (at + 2 * frameBytes ≤ length (now out)) ⌝ }
-    ensures { λ r. ⌜ (r ≡ at + length (spelledFrame (frameIn (now (frame .entry))))) × (r ≤ at + 2 * frameBytes) × (now (out .exit) ≡ put (now (out .entry)) at (spelledFrame (frameIn (now (frame .entry))))) ⌝ }
+    requires { ⌜ (length (now frame) ≡ frameBytes classic) × (at + 2 * frameBytes classic ≤ length (now out)) ⌝ }
+    ensures { λ r. ⌜ (r ≡ at + length (spelledFrame (frameIn (now (frame .entry))))) × (r ≤ at + 2 * frameBytes classic) × (now (out .exit) ≡ put (now (out .entry)) at (spelledFrame (frameIn (now (frame .entry))))) ⌝ }
 {
     let high = frame[0];
     let low = frame[1];
@@ -82,20 +82,20 @@ fn frame(frame: &[u8], out: &mut [u8], at: usize) -> usize
         COLON,
     ];
     words::copy(out, at, &head, 0, 5);
-    let end = can::frame::HEAD + words::least(dlc as usize, can::frame::CLASSIC);
-    unspaced(&frame[can::frame::HEAD..end], out, at + 5)
+    let end = frames::HEAD + words::least(dlc as usize, frames::CLASSIC);
+    unspaced(&frame[frames::HEAD..end], out, at + 5)
 }
 
 // Prints the frames of a reply, and tells where they end.
 pub fn frames(reply: &[u8], out: &mut [u8], at: usize) -> usize
-    requires { ⌜ (length (now reply) % frameBytes ≡ 0) × (at + 2 * length (now reply) ≤ length (now out)) ⌝ }
+    requires { ⌜ (length (now reply) % frameBytes classic ≡ 0) × (at + 2 * length (now reply) ≤ length (now out)) ⌝ }
     ensures { λ r. ⌜ (r ≡ at + length (spelledFrames (now (reply .entry)))) × (r ≤ at + 2 * length (now (reply .entry))) × (now (out .exit) ≡ put (now (out .entry)) at (spelledFrames (now (reply .entry)))) ⌝ }
 {
     let n = reply.len();
     let mut end = at;
     let mut i = 0;
     while i < n {
-        let next = i + can::frame::BYTES;
+        let next = i + frames::BYTES;
         end = frame(&reply[i..next], out, end);
         i = next;
     }

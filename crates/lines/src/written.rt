@@ -3,7 +3,7 @@ ghost use Prim.Native.Nat.{_*_, _≤_};
 ghost use lib.Dec.{T};
 ghost use lib.ListN.{length};
 ghost use Rattle.words.specs.Over.{put};
-ghost use Rattle.can.specs.Frames.{frameBytes};
+ghost use Rattle.frames.specs.Frames.{classic, frameBytes};
 ghost use Rattle.lines.specs.Lines.{fieldCharacters, areFields, fields, areFrame, frameWritten};
 use crate::digits;
 use crate::line::FIELD;
@@ -27,11 +27,11 @@ fn bytes(rest: &[u8], out: &mut [u8]) -> usize
 
 // Makes the frame that an ID and data write.
 pub fn frame(rest: &[u8], out: &mut [u8])
-    requires { ⌜ T (areFrame (now rest)) × (length (now out) ≡ frameBytes) ⌝ }
+    requires { ⌜ T (areFrame (now rest)) × (length (now out) ≡ frameBytes classic) ⌝ }
     ensures { λ _. ⌜ now (out .exit) ≡ frameWritten (now (rest .entry)) ⌝ }
 {
-    let mut data = [0u8; can::frame::CLASSIC];
+    let mut data = [0u8; frames::CLASSIC];
     let n = bytes(&rest[ID..], &mut data);
     let id = words::number2(digits::value(rest[1]), digits::byte_in(rest[2], rest[3]));
-    can::say::put_frame(id, &data[..n], can::frame::CLASSIC, out, 0);
+    frames::put::put_frame(id, &data[..n], frames::CLASSIC, out, 0);
 }

@@ -14,7 +14,8 @@ use Rattle.words.proofs.Tests.{same-choice}
 use Rattle.board.specs.Board as B
 use Rattle.board.specs.Quantities.{startOf, sectorAt, named}
 use Rattle.board.specs.declared.Sector.{Sector}
-use Rattle.memories.specs.Effects.{erased, erasedByte, blank}
+use Rattle.memories.specs.Memories.{erasedByte}
+use Rattle.memories.specs.Effects.{erased, blank}
 
 -- a place lies within a sector exactly where the sector is the place's own
 in-sector : (k : Sector) (i : ℕ) → within (startOf k) (B.sectors .bytes) i ≡ eqb (k .0) (i / B.sectors .bytes)

@@ -5,8 +5,8 @@ use native.Mathlib.Omega.{arith}
 use lib.ListN.{length, getD, getD-replicate}
 use lib.Seq.{getD-set-same, getD-set-other}
 use Rattle.board.specs.Board as B
-use Rattle.memories.specs.Memories.{Memories}
-use Rattle.memories.specs.Effects.{erasedByte, erasedAll, wiped}
+use Rattle.memories.specs.Memories.{Memories, erasedByte}
+use Rattle.memories.specs.Effects.{erasedAll, wiped}
 
 pub wiped-flash : (m : Memories) (i : ℕ) → i < B.flash .bytes → getD (wiped m .flash) i 0 ≡ erasedByte
 unfolding wiped erasedAll

@@ -14,7 +14,7 @@ use Rattle.board.specs.Usd.{protectionOn}
 use Rattle.board.specs.declared.Region.{Region}
 use Rattle.board.specs.declared.Region.the-variants.{Flash, Sram, Usd}
 use Rattle.board.specs.declared.Sector.{Sector}
-use Rattle.memories.specs.Memories.{Memories, withBytes}
+use Rattle.memories.specs.Memories.{Memories, withBytes, erasedByte}
 use Rattle.memories.specs.Protection.{released, onlyProtected, locked, unlocked}
 use Rattle.memories.specs.declared.Change.{Change}
 use Rattle.memories.specs.declared.Change.the-variants.{Nothing, Write, EraseAll, EraseSectors, ProtectOnly, Release, Lock, Unlock}
@@ -22,10 +22,6 @@ use Rattle.memories.specs.declared.Change.the-variants.{Nothing, Write, 
 -- how many staged bytes there are
 abbrev pub stagedBytes : ℕ
 stagedBytes = 257
-
--- an erased byte of flash
-abbrev pub erasedByte : ℕ
-erasedByte = 0xFF
 
 -- Write: a flash byte becomes old AND new, SRAM is stored, user system data is replaced
 unfoldable pub written : Region → ℕ → List ℕ → Memories → Memories

@@ -1,8 +1,8 @@
 -- The three memories that a call is lent.
 use Prim.Native.Nat.{ℕ}
 use mathlib.Core.Bool.{Bool, _&&_}
-use mathlib.Core.List.{List, _∷_}
-use lib.ListN.{length, replicate}
+use mathlib.Core.List.{List}
+use lib.ListN.{length, set, replicate}
 use lib.Dec.{eqb}
 use Rattle.board.specs.Board as B
 use Rattle.board.specs.declared.Region.{Region}
@@ -30,21 +30,25 @@ withBytes Flash l m = record { flash = l; sram = m .sram; usd = m .usd }
 withBytes Sram l m = record { flash = m .flash; sram = l; usd = m .usd }
 withBytes Usd l m = record { flash = m .flash; sram = m .sram; usd = l }
 
--- a region has as many bytes as the board says
-abbrev pub properIn : Region → Memories → Bool
-properIn r m = eqb (length (bytesOf r m)) (B.extentOf r .bytes)
+-- flash, SRAM and user system data of these lengths have those that the board gives them
+abbrev pub lengthsRight : ℕ → ℕ → ℕ → Bool
+lengthsRight flash sram usd = eqb flash (B.flash .bytes) && eqb sram (B.sram .bytes) && eqb usd (B.usd .bytes)
 
--- flash, SRAM and user system data have their lengths
+-- the memories have their lengths
 abbrev pub proper : Memories → Bool
-proper m = properIn Flash m && properIn Sram m && properIn Usd m
+proper m = lengthsRight (length (m .flash)) (length (m .sram)) (length (m .usd))
+
+-- an erased byte of flash
+abbrev pub erasedByte : ℕ
+erasedByte = 0xFF
 
 -- the fresh board: USD A5 then all FF, flash FF, SRAM 00
 abbrev pub freshUsd : List ℕ
-freshUsd = B.layout .«protection_off» ∷ replicate 63 0xFF
+freshUsd = set (replicate (B.usd .bytes) erasedByte) (B.layout .protection) (B.layout .«protection_off»)
 
 abbrev pub freshMemories : Memories
 freshMemories = record {
-  flash = replicate (B.flash .bytes) 0xFF;
+  flash = replicate (B.flash .bytes) erasedByte;
   sram = replicate (B.sram .bytes) 0;
   usd = freshUsd;
 }

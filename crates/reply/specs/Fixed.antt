@@ -13,18 +13,18 @@ use Rattle.reply.specs.declared.Fixed.{Fixed}
 abbrev pub replyRoom : ℕ
 replyRoom = largestCount + 1
 
--- the most bytes of a fixed reply
+-- an answer to 0x00: ACK, a count, the version, the commands that both carriers have, and what two bytes say behind them
+abbrev pub listing : ℕ → ℕ → ℕ → List ℕ
+listing count first second = ackByte ∷ count ∷ identity .version ∷ map code uartCommands ++ first ∷ second ∷ []
+
+-- the most bytes of a fixed reply: a listing
 abbrev pub fixedRoom : ℕ
-fixedRoom = 18
+fixedRoom = length (listing 0 0 0)
 
 -- the bytes that count are there, and no more than a fixed reply has
 pub record Holds (f : Fixed) : Type 0 where
   pub there : f .count ≤ length (f .bytes)
   pub few : length (f .bytes) ≤ fixedRoom
-
--- an answer to 0x00: ACK, a count, the version, the commands that both carriers have, and what two bytes say behind them
-abbrev pub listing : ℕ → ℕ → ℕ → List ℕ
-listing count first second = ackByte ∷ count ∷ identity .version ∷ map code uartCommands ++ first ∷ second ∷ []
 
 -- it is a carrier's answer to 0x00: what it tells of its commands, between two ACKs
 pub record Lists (f : Fixed) (list : List ℕ) : Type 0 where

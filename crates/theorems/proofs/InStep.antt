@@ -16,7 +16,7 @@ use Rattle.uart.specs.Steps as U
 use Rattle.uart.specs.Conversation as UC
 use Rattle.can.specs.Steps as C
 use Rattle.can.specs.Conversation as CC
-use Rattle.can.specs.Frames.{frameIn}
+use Rattle.frames.specs.Frames.{frameIn}
 use Rattle.boot.specs.Session.{on, carrierNo, progress}
 use Rattle.boot.specs.Decide.{connected, decideByte, decideFrame}
 use Rattle.boot.specs.Causes.{causeOf, accepts}

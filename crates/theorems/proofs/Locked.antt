@@ -32,7 +32,7 @@ use Rattle.uart.specs.Conversation as UC
 use Rattle.uart.specs.declared.Step as US
 use Rattle.can.specs.Steps as C
 use Rattle.can.specs.Conversation as CC
-use Rattle.can.specs.Frames.{Frame, frameIn}
+use Rattle.frames.specs.Frames.{Frame, frameIn}
 use Rattle.can.specs.declared.Step as CS
 use Rattle.boot.specs.Session.{on, carrierNo, progress, gathered, after}
 use Rattle.boot.specs.Decide.{connected, decideByte, decideFrame}

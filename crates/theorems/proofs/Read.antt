@@ -1,14 +1,38 @@
 -- The club's failure (c): a locked board reads nothing, since each of its decisions is discreet and the board stays locked and calm.
-use mathlib.Core.List.{List}
-use mathlib.Core.Path.{refl}
+use mathlib.Core.Bool.{Bool, true, false}
+use mathlib.Core.List.{List, []}
+use mathlib.Core.Path.{_≡_, refl}
 use lib.Dec.{T}
-use Rattle.boot.specs.Calls.{done, Input, powered, run}
-use Rattle.theorems.specs.Failures.{NeverRead}
+use Rattle.words.specs.Choice.{if_then_else_}
+use Rattle.command.specs.Decision.{if_gives_else_, answer}
+use Rattle.command.specs.Says.{says}
+use Rattle.command.specs.declared.Decision.{Decision}
+use Rattle.command.specs.declared.Next.the-variants.{Stay}
+use Rattle.command.specs.declared.Reply.the-variants.{Silence}
+use Rattle.boot.specs.Causes.{accepts}
+use Rattle.boot.specs.Calls.{Input, Power, Byte, Framed, State, powered, causeFor, decide, commandsOf, sent, perform, refused, call, done, run}
+use Rattle.theorems.specs.Failures.{sentWith, NeverRead}
 use Rattle.theorems.specs.Secrecy.{shut}
 use Rattle.theorems.proofs.Secrecy.{Twins, twins-fresh, twins-after, shows-nothing, quiet-done}
 
+-- a refused call replies nothing, an accepted one what it decided
+replied : (i : Input) (p : State) → call i p .reply ≡ sentWith (p .memories) i p
+unfolding call done perform if_gives_else_ sent says
+replied i p = by-test (accepts (causeFor i p)) (decide i (p .session) (p .memories .usd))
+  where
+    silent : (j : Input) → [] ≡ sent j (p .session) (says (commandsOf j) Silence (p .memories))
+    silent Power = refl
+    silent (Byte room b) = refl
+    silent (Framed room l) = refl
+
+    by-test : (t : Bool) (d : Decision) → (if t then perform i p d else refused (causeFor i p) p) .reply
+        ≡ sent i (p .session) (says (commandsOf i) ((if t gives d else answer Silence Stay) .reply) (p .memories))
+    by-test true d = refl
+    by-test false d = silent i
+
 pub never-read : NeverRead
 never-read m pm l = record {
+  own = λ is i. replied i (run is (powered m));
   never = λ is i k. quiet-done i (run is (powered m)) (run is (powered m)) (after is k);
   blind = λ is i k. shows-nothing i (run is (powered m) .session) (done i (run is (powered m)) .reply)
       (quiet-done i (run is (powered m)) (run is (powered m)) (after is k));

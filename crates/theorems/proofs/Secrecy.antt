@@ -18,7 +18,7 @@ use Rattle.command.specs.declared.Decision.{Decision}
 use Rattle.command.specs.declared.Next.the-variants.{Stay}
 use Rattle.command.specs.declared.Reply.{Reply}
 use Rattle.command.specs.declared.Reply.the-variants.{Silence, Ack, AckAck, Nack, AckNack, Commands, Version, DeviceId, Data, Crc}
-use Rattle.can.specs.Frames.{classic, isFrame}
+use Rattle.frames.specs.Frames.{classic, isFrame}
 use Rattle.uart.specs.Conversation.{uartRoom}
 use Rattle.can.specs.Conversation.{canRoom}
 use Rattle.boot.specs.Session.{after, progress, gathered}

@@ -153,6 +153,8 @@ sentWith m i p = sent i (p .session) (says (commandsOf i) (done i p .reply) m)
 
 -- of a board, before an obeyed Access Unprotect
 pub record Unread (p : State) : Type 0 where
+  -- what a call replies is what is sent with the board's own memories
+  pub own : (is : List Input) (i : Input) → call i (run is p) .reply ≡ sentWith (run is p .memories) i (run is p)
   -- no input is decided to read
   pub never : (is : List Input) (i : Input) → T (shut is p) → T (not (reads (done i (run is p) .reply)))
   -- and what is sent is the same for any memories, but for a CRC value

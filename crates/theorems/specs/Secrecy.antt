@@ -3,7 +3,8 @@ use Prim.Native.Nat.{ℕ, _+_}
 use mathlib.Core.Path.{_≡_}
 use mathlib.Core.Bool.{Bool, true, false, not, _&&_}
 use mathlib.Core.List.{List, [], _∷_}
-use lib.ListN.{replicate}
+use lib.ListN.{length, replicate}
+use Rattle.words.specs.Bytes.{fourBytes}
 use lib.Dec.{T}
 use Rattle.words.specs.Over.{put}
 use Rattle.board.specs.Usd.{protectionOn}
@@ -12,7 +13,7 @@ use Rattle.memories.specs.declared.Change.{Change}
 use Rattle.memories.specs.declared.Change.the-variants.{Nothing, Write, EraseAll, EraseSectors, ProtectOnly, Release, Lock, Unlock}
 use Rattle.command.specs.declared.Reply.{Reply}
 use Rattle.command.specs.declared.Reply.the-variants.{Silence, Ack, AckAck, Nack, AckNack, Commands, Version, DeviceId, Data, Crc}
-use Rattle.can.specs.Frames.{classic, headBytes}
+use Rattle.frames.specs.Frames.{classic, headBytes, frameBytes}
 use Rattle.boot.specs.Calls.{State, powered, Input, Power, Byte, Framed, done, call, outcomes, run}
 use Rattle.boot.specs.declared.Cause.{Cause}
 use Rattle.boot.specs.declared.Session.{Session}
@@ -42,13 +43,13 @@ shut (i ∷ is) p = not (opens i p) && shut is (call i p .state)
 
 -- how many bytes a CRC value has
 abbrev pub valueBytes : ℕ
-valueBytes = 4
+valueBytes = length (fourBytes 0)
 
 -- where the value bytes of a Firmware CRC answer stand: behind the ACK, which on CAN is a frame, and the frame's head
 abbrev pub valueAt : Input → ℕ
 valueAt Power = 0
 valueAt (Byte room b) = 1
-valueAt (Framed room l) = headBytes + classic .largest + headBytes
+valueAt (Framed room l) = frameBytes classic + headBytes
 
 -- a reply in which the four value bytes of a Firmware CRC answer are struck out, and nothing else
 abbrev pub veiled : Input → Reply → List ℕ → List ℕ

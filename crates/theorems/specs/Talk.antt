@@ -63,8 +63,8 @@ abbrev pub nothing : Memories → List ℕ
 nothing m = []
 
 -- the whole flash, bytes of it, and bytes of user system data
-abbrev pub wholeFlash : Memories → List ℕ
-wholeFlash m = m .flash
+abbrev pub flashOf : Memories → List ℕ
+flashOf m = m .flash
 
 abbrev pub flashAt : ℕ → ℕ → Memories → List ℕ
 flashAt at n m = part at n (m .flash)
@@ -150,7 +150,7 @@ starred =
     (usdAt 7 6) (hex "FF F7 FF FF FF FF")
     ∷ shows loadedBoard
     (connectUart ∷ uart "44 BB" "79" ∷ uart "00 00 00 20 20" "1F" ∷ [])
-    wholeFlash (replicate (B.flash .bytes) 0x5A)
+    flashOf (replicate (B.flash .bytes) 0x5A)
     ∷ shows freshBoard
     (connectCan
     ∷ can "00 31 05 08 00 00 00 02 00 00 00" "00 31 01 79 00 00 00 00 00 00 00"

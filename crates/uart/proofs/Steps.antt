@@ -2,14 +2,17 @@
 use mathlib.Core.Path.{_≡_, refl, ap, _∙_}
 use mathlib.Core.Bool.{_&&_}
 use mathlib.Core.List.{map}
-use Prim.Native.Nat.{ℕ, _+_, _%_, _≤_}
+use Prim.Native.Nat.{ℕ, _%_, _≤_}
 use native.Mathlib.Omega.{arith}
 use lib.Dec.{T, eqb, leb, leb→le, eqb→eq}
 use lib.ListN.{length}
-use Rattle.words.specs.Lists.{countFrom}
+use Rattle.words.specs.Lists.{all, countFrom}
 use Rattle.words.proofs.Tests.{both-left, both-right}
-use Rattle.board.specs.Quantities.{largestCount}
-use Rattle.uart.specs.Steps.{stepNo, steps, stepOf, complementedByte, checkedAddress, oneByte, expectedFor, expects}
+use Rattle.command.specs.Commands.{uartCommands}
+use Rattle.command.specs.declared.Command.{Command}
+use Rattle.command.specs.declared.Command.the-variants.{WriteMemory}
+use Rattle.uart.specs.Conversation.{bytesTo}
+use Rattle.uart.specs.Steps.{stepNo, steps, stepOf, expects}
 use denote.Enum.Declared.{tagOf}
 use Rattle.uart.proofs.Step.{the-type}
 use Rattle.uart.specs.declared.Step.{Step}
@@ -34,8 +37,11 @@ read-back ProtectLength = refl
 read-back ProtectList = refl
 read-back CrcCount = refl
 
--- the longest command, a write of 256 bytes, takes 265 bytes to its last answer
-pub longest-command : complementedByte + checkedAddress + oneByte + expectedFor largestCount ≡ 265
+-- no command takes over 265 bytes to its last answer, and a write of 256 bytes takes as many
+pub no-longer-command : T (all (λ (c : Command). leb (bytesTo c) 265) uartCommands)
+no-longer-command = tt
+
+pub longest-command : bytesTo WriteMemory ≡ 265
 longest-command = refl
 
 -- ---- what a step of some length may expect

@@ -1,12 +1,13 @@
 -- The UART conversation, step by step: document 01, "UART conversation".
-use Prim.Native.Nat.{ℕ, _+_, _*_}
+use Prim.Native.Nat.{ℕ, _+_}
 use mathlib.Core.Bool.{Bool}
 use mathlib.Core.List.{List, [], _∷_, _++_, map}
 use lib.ListN.{length, getD, take}
 use lib.Dec.{eqb}
 use Rattle.words.specs.Bytes.{complement, xorAll, number, twoBytes}
-use Rattle.board.specs.Board.{address, identity}
-use Rattle.board.specs.Quantities.{countOf, lessOne, oneLess, addressBytes}
+use Rattle.board.specs.Board.{address, identity, sectors}
+use Rattle.board.specs.Quantities.{largestCount, countOf, lessOne, oneLess, addressBytes, selectorBytes, longCountBytes, numbersBytes}
+use Rattle.reply.specs.Fixed.{replyRoom}
 use Rattle.board.specs.Regions.{known, sectorStart}
 use Rattle.board.specs.declared.Address.{Address}
 use Rattle.memories.specs.declared.Change.the-variants.{EraseAll}
@@ -24,13 +25,13 @@ use Rattle.command.specs.declared.Reply.the-variants.{Silence, Ack, Commands, V
 use Rattle.command.specs.declared.Selector.{Selector}
 use Rattle.command.specs.declared.Selector.the-variants.{Listed, Special, Impossible}
 use Rattle.command.specs.declared.Why.the-variants.{BadComplement, UnknownCommand, BadChecksum, BadAddress, BadRange}
-use Rattle.uart.specs.Steps.{stepNo, complementedByte, checkedAddress, oneByte, selectorBytes, checkedCount, expectedFor, countIn, expectedForNumbers, numbersIn}
+use Rattle.uart.specs.Steps.{stepNo, complementedByte, checkedAddress, oneByte, checkedCount, expectedFor, countIn, expectedForNumbers, numbersIn}
 use Rattle.uart.specs.declared.Step.{Step}
 use Rattle.uart.specs.declared.Step.the-variants.{Idle, ReadAddress, JumpAddress, WriteAddress, CrcAddress, ReadLength, WriteLength, WriteData, EraseSelector, SpecialCheck, EraseList, ProtectLength, ProtectList, CrcCount}
 
--- the room that a reply buffer must have
+-- the room that a reply buffer must have: 257
 abbrev pub uartRoom : ℕ
-uartRoom = 257
+uartRoom = replyRoom
 
 -- the byte that asks for a connection
 abbrev pub connectByte : ℕ
@@ -54,7 +55,7 @@ checksCounted x bytes = checks (oneLess x .0 ∷ take x bytes) (getD bytes x 0)
 
 -- the selector X - 1, X two-byte numbers and XOR of all of these, the selector having come before
 abbrev pub checksNumbered : ℕ → List ℕ → Bool
-checksNumbered x bytes = checks (twoBytes (oneLess x .0) ++ take (2 * x) bytes) (getD bytes (2 * x) 0)
+checksNumbered x bytes = checks (twoBytes (oneLess x .0) ++ take (numbersBytes x) bytes) (getD bytes (numbersBytes x) 0)
 
 -- ACK, and a step is entered
 abbrev pub goOn : Step → ℕ → Decision
@@ -125,7 +126,8 @@ complete ProtectLength e a bytes usd = awaits ProtectList bytes
 complete ProtectList e a bytes usd =
     if checksCounted (countIn e) bytes gives protecting bytes (countIn e) else nack BadChecksum
 complete CrcCount e a bytes usd =
-    if checks (0xFF ∷ take 2 bytes) (getD bytes 2 0) gives summing (address a) (countOf (lessOne (number (take 2 bytes))))
+    if checks (0xFF ∷ take longCountBytes bytes) (getD bytes longCountBytes 0)
+    gives summing (address a) (countOf (lessOne (number (take longCountBytes bytes))))
     else nack BadChecksum
 
 -- one byte of a connected host: gathered, or the last of its step
@@ -133,3 +135,20 @@ unfoldable pub heard : Step → Progress → List ℕ → ℕ → Decision
 heard s p usd b =
     if short p (b ∷ []) gives answer Silence Gather
     else complete s (p .expected) (p .address) (stagedWith p (b ∷ [])) usd
+
+-- the bytes that a command takes at most to its last answer: its own two, and what its steps expect
+abbrev pub bytesTo : Command → ℕ
+bytesTo GetCommands = complementedByte
+bytesTo GetVersion = complementedByte
+bytesTo GetDeviceId = complementedByte
+bytesTo ReadMemory = complementedByte + checkedAddress + complementedByte
+bytesTo Jump = complementedByte + checkedAddress
+bytesTo WriteMemory = complementedByte + checkedAddress + oneByte + expectedFor largestCount
+bytesTo Erase = complementedByte + selectorBytes + expectedForNumbers (sectors .count)
+bytesTo ProgramProtect = complementedByte + oneByte + expectedFor largestCount
+bytesTo ProgramUnprotect = complementedByte
+bytesTo AccessProtect = complementedByte
+bytesTo AccessUnprotect = complementedByte
+bytesTo FirmwareCrc = complementedByte + checkedAddress + checkedCount
+bytesTo ResetDevice = complementedByte
+bytesTo Speed = complementedByte

@@ -1,11 +1,11 @@
 -- The UART steps and what they expect: document 01, "Calls and the five causes".
-use Prim.Native.Nat.{ℕ, _+_, _-_, _*_, _/_, _%_}
+use Prim.Native.Nat.{ℕ, _+_, _-_, _/_, _%_}
 use mathlib.Core.Bool.{Bool, _&&_}
 use mathlib.Core.List.{List, [], _∷_}
 use lib.ListN.{getD}
 use lib.Dec.{eqb, leb}
 use Rattle.board.specs.Board.{sectors}
-use Rattle.board.specs.Quantities.{largestCount}
+use Rattle.board.specs.Quantities.{largestCount, addressBytes, selectorBytes, longCountBytes, numbersBytes}
 use Rattle.uart.specs.declared.Step.{Step}
 use Rattle.uart.specs.declared.Step.the-variants.{Idle, ReadAddress, JumpAddress, WriteAddress, CrcAddress, ReadLength, WriteLength, WriteData, EraseSelector, SpecialCheck, EraseList, ProtectLength, ProtectList, CrcCount}
 
@@ -36,21 +36,18 @@ steps =
 abbrev pub stepOf : ℕ → Step
 stepOf n = getD steps n Idle
 
--- what is expected of a byte and its complement, an address and its XOR, one byte, two selector bytes, a count and its checksum
+-- what is expected of a byte and its complement, an address and its XOR, one byte, a count of sectors and its checksum
 abbrev pub complementedByte : ℕ
 complementedByte = 2
 
 abbrev pub checkedAddress : ℕ
-checkedAddress = 5
+checkedAddress = addressBytes + 1
 
 abbrev pub oneByte : ℕ
 oneByte = 1
 
-abbrev pub selectorBytes : ℕ
-selectorBytes = 2
-
 abbrev pub checkedCount : ℕ
-checkedCount = 3
+checkedCount = longCountBytes + 1
 
 -- what is expected for X bytes and their checksum, and X read back from it
 abbrev pub expectedFor : ℕ → ℕ
@@ -61,10 +58,10 @@ countIn e = e - 1
 
 -- what is expected for X two-byte numbers and their checksum, and X read back from it
 abbrev pub expectedForNumbers : ℕ → ℕ
-expectedForNumbers x = 2 * x + 1
+expectedForNumbers x = numbersBytes x + 1
 
 abbrev pub numbersIn : ℕ → ℕ
-numbersIn e = (e - 1) / 2
+numbersIn e = (e - 1) / selectorBytes
 
 -- a step may expect this many bytes
 abbrev pub expects : Step → ℕ → Bool
@@ -78,7 +75,7 @@ expects WriteLength e = eqb e oneByte
 expects WriteData e = leb (expectedFor 1) e && leb e (expectedFor largestCount)
 expects EraseSelector e = eqb e selectorBytes
 expects SpecialCheck e = eqb e oneByte
-expects EraseList e = leb (expectedForNumbers 1) e && leb e (expectedForNumbers (sectors .count)) && eqb (e % 2) 1
+expects EraseList e = leb (expectedForNumbers 1) e && leb e (expectedForNumbers (sectors .count)) && eqb (e % selectorBytes) 1
 expects ProtectLength e = eqb e oneByte
 expects ProtectList e = leb (expectedFor 1) e && leb e (expectedFor largestCount)
 expects CrcCount e = eqb e checkedCount

@@ -34,6 +34,10 @@ twoBytes n = byteOf n 1 ∷ byteOf n 0 ∷ []
 abbrev pub fourBytes : ℕ → List ℕ
 fourBytes n = byteOf n 3 ∷ byteOf n 2 ∷ byteOf n 1 ∷ byteOf n 0 ∷ []
 
+-- how many bits a byte has
+abbrev pub byteBits : ℕ
+byteBits = 8
+
 -- bit j of a number
 abbrev pub bit : ℕ → ℕ → ℕ
 bit n j = n / 2 ^ j % 2

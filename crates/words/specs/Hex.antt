@@ -8,8 +8,11 @@ use lib.Dec.{leb, ltb}
 use Rattle.words.specs.Choice.{if_then_else_}
 
 -- the value of a capital hex digit
+abbrev pub valueOf : ℕ → ℕ
+valueOf c = if leb c 57 then c - 48 else c - 55
+
 abbrev pub digit : Char → ℕ
-digit c = if leb (code c) 57 then code c - 48 else code c - 55
+digit c = valueOf (code c)
 
 -- the bytes of a text from place i on, at most f of them
 abbrev pub hexUpTo : ℕ → String → ℕ → List ℕ

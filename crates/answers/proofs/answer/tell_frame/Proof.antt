@@ -6,7 +6,7 @@ use mathlib.Core.List.{List, [], _∷_}
 use Prim.Native.Nat.{ℕ, _%_}
 use lib.ListN.{length, replicate}
 use lib.Seq.{length-take-le}
-use Rattle.can.specs.Frames.{frameBytes}
+use Rattle.frames.specs.Frames.{classic, frameBytes}
 use Rattle.boot.specs.Calls.{Framed}
 use Rattle.boot.specs.Promise.{left, givenFrame, stateOf, outcome}
 use Rattle.lines.proofs.Lines.{frame-good}
@@ -28,7 +28,7 @@ tell-frame-spec =
     (λ c κs. search needs)
     (λ c. let g = givenFrame (c .before .before .before .before .before .before .before .before .before .before .before .before .before .before .before .before .before .before .before .before .before .before .args .session) ((c .before .before .before .before .before .before .before .before .before .before .before .before .before .before .before .frame .last .1 .0)) (c .before .before .before .before .before .before .before .before .before .before .before .before .before .before .before .before .before .before .before .before .before .before .args .flash .now) (c .before .before .before .before .before .before .before .before .before .before .before .before .before .before .before .before .before .before .before .before .before .before .args .sram .now) (c .before .before .before .before .before .before .before .before .before .before .before .before .before .before .before .before .before .before .before .before .before .before .args .usd .now) (replicate 363 0) in let l = left (c .before .before .before .before .before .before .before .before .take-frame .result) ((c .before .before .before .before .before .before .before .before .take-frame .last .1 .1 .0)) ((c .before .before .before .before .before .before .before .before .take-frame .last .1 .1 .1 .0)) ((c .before .before .before .before .before .before .before .before .take-frame .last .1 .1 .1 .1 .0)) ((c .before .before .before .before .before .before .before .before .take-frame .last .1 .1 .1 .1 .1 .0)) in let f = took-fits g l (c .before .before .before .before .before .before .before .before .take-frame .ensures) ((c .before .before .before .before .before .before .before .before .take-frame .kept .1 .1 .1 .1 .1 .0)) in omega (arith, f, (c .before .before .before .before .before .before .before .before .take-frame .kept .1 .1 .1 .1 .1 .0)))
     (λ c. let g = givenFrame (c .before .before .before .before .before .before .before .before .before .before .before .before .before .before .before .before .before .before .before .before .before .before .before .args .session) ((c .before .before .before .before .before .before .before .before .before .before .before .before .before .before .before .before .frame .last .1 .0)) (c .before .before .before .before .before .before .before .before .before .before .before .before .before .before .before .before .before .before .before .before .before .before .before .args .flash .now) (c .before .before .before .before .before .before .before .before .before .before .before .before .before .before .before .before .before .before .before .before .before .before .before .args .sram .now) (c .before .before .before .before .before .before .before .before .before .before .before .before .before .before .before .before .before .before .before .before .before .before .before .args .usd .now) (replicate 363 0) in let l = left (c .before .before .before .before .before .before .before .before .before .take-frame .result) ((c .before .before .before .before .before .before .before .before .before .take-frame .last .1 .1 .0)) ((c .before .before .before .before .before .before .before .before .before .take-frame .last .1 .1 .1 .0)) ((c .before .before .before .before .before .before .before .before .before .take-frame .last .1 .1 .1 .1 .0)) ((c .before .before .before .before .before .before .before .before .before .take-frame .last .1 .1 .1 .1 .1 .0)) in let f = took-fits g l (c .before .before .before .before .before .before .before .before .before .take-frame .ensures) ((c .before .before .before .before .before .before .before .before .before .take-frame .kept .1 .1 .1 .1 .1 .0)) in sym (length-take-le (c .before .before .before .before .before .before .before .before .before .take-frame .result .length) ((c .before .before .before .before .before .before .before .before .before .take-frame .last .1 .1 .1 .1 .1 .0)) (omega (arith, f, (c .before .before .before .before .before .before .before .before .before .take-frame .kept .1 .1 .1 .1 .1 .0)))))
-    (λ c κs. let g = givenFrame (c .before .before .before .before .before .before .before .before .before .before .before .before .before .before .before .before .before .before .before .before .before .before .before .before .args .session) ((c .before .before .before .before .before .before .before .before .before .before .before .before .before .before .before .before .before .frame .last .1 .0)) (c .before .before .before .before .before .before .before .before .before .before .before .before .before .before .before .before .before .before .before .before .before .before .before .before .args .flash .now) (c .before .before .before .before .before .before .before .before .before .before .before .before .before .before .before .before .before .before .before .before .before .before .before .before .args .sram .now) (c .before .before .before .before .before .before .before .before .before .before .before .before .before .before .before .before .before .before .before .before .before .before .before .before .args .usd .now) (replicate 363 0) in let l = left (c .before .before .before .before .before .before .before .before .before .before .take-frame .result) ((c .before .before .before .before .before .before .before .before .before .before .take-frame .last .1 .1 .0)) ((c .before .before .before .before .before .before .before .before .before .before .take-frame .last .1 .1 .1 .0)) ((c .before .before .before .before .before .before .before .before .before .before .take-frame .last .1 .1 .1 .1 .0)) ((c .before .before .before .before .before .before .before .before .before .before .take-frame .last .1 .1 .1 .1 .1 .0)) in let f = took-fits g l (c .before .before .before .before .before .before .before .before .before .before .take-frame .ensures) ((c .before .before .before .before .before .before .before .before .before .before .take-frame .kept .1 .1 .1 .1 .1 .0)) in let k = length-take-le (c .before .before .before .before .before .before .before .before .before .before .take-frame .result .length) ((c .before .before .before .before .before .before .before .before .before .before .take-frame .last .1 .1 .1 .1 .1 .0)) (omega (arith, f, (c .before .before .before .before .before .before .before .before .before .before .take-frame .kept .1 .1 .1 .1 .1 .0))) in let o = frame-good (c .before .before .before .before .before .before .before .before .before .before .before .before .before .before .before .before .before .before .before .before .before .before .before .before .args .rest .now) (c .before .before .before .before .before .before .before .before .before .before .before .before .before .before .before .before .before .before .before .before .before .before .before .before .pre .0) in (ap (λ (r : List ℕ). length r % frameBytes) (took-reply g l (c .before .before .before .before .before .before .before .before .before .before .take-frame .ensures)) ∙ frame-whole 363 ((c .before .before .before .before .before .before .before .before .before .before .before .before .before .before .before .before .before .frame .last .1 .0)) (stateOf (c .before .before .before .before .before .before .before .before .before .before .before .before .before .before .before .before .before .before .before .before .before .before .before .before .args .session) (c .before .before .before .before .before .before .before .before .before .before .before .before .before .before .before .before .before .before .before .before .before .before .before .before .args .flash .now) (c .before .before .before .before .before .before .before .before .before .before .before .before .before .before .before .before .before .before .before .before .before .before .before .before .args .sram .now) (c .before .before .before .before .before .before .before .before .before .before .before .before .before .before .before .before .before .before .before .before .before .before .before .before .args .usd .now)), omega (arith, k, f, o .long, (c .before .before .before .before .before .before .before .before .before .before .before .before .before .before .before .before .before .before .before .before .before .before .before .before .pre .1))))
+    (λ c κs. let g = givenFrame (c .before .before .before .before .before .before .before .before .before .before .before .before .before .before .before .before .before .before .before .before .before .before .before .before .args .session) ((c .before .before .before .before .before .before .before .before .before .before .before .before .before .before .before .before .before .frame .last .1 .0)) (c .before .before .before .before .before .before .before .before .before .before .before .before .before .before .before .before .before .before .before .before .before .before .before .before .args .flash .now) (c .before .before .before .before .before .before .before .before .before .before .before .before .before .before .before .before .before .before .before .before .before .before .before .before .args .sram .now) (c .before .before .before .before .before .before .before .before .before .before .before .before .before .before .before .before .before .before .before .before .before .before .before .before .args .usd .now) (replicate 363 0) in let l = left (c .before .before .before .before .before .before .before .before .before .before .take-frame .result) ((c .before .before .before .before .before .before .before .before .before .before .take-frame .last .1 .1 .0)) ((c .before .before .before .before .before .before .before .before .before .before .take-frame .last .1 .1 .1 .0)) ((c .before .before .before .before .before .before .before .before .before .before .take-frame .last .1 .1 .1 .1 .0)) ((c .before .before .before .before .before .before .before .before .before .before .take-frame .last .1 .1 .1 .1 .1 .0)) in let f = took-fits g l (c .before .before .before .before .before .before .before .before .before .before .take-frame .ensures) ((c .before .before .before .before .before .before .before .before .before .before .take-frame .kept .1 .1 .1 .1 .1 .0)) in let k = length-take-le (c .before .before .before .before .before .before .before .before .before .before .take-frame .result .length) ((c .before .before .before .before .before .before .before .before .before .before .take-frame .last .1 .1 .1 .1 .1 .0)) (omega (arith, f, (c .before .before .before .before .before .before .before .before .before .before .take-frame .kept .1 .1 .1 .1 .1 .0))) in let o = frame-good (c .before .before .before .before .before .before .before .before .before .before .before .before .before .before .before .before .before .before .before .before .before .before .before .before .args .rest .now) (c .before .before .before .before .before .before .before .before .before .before .before .before .before .before .before .before .before .before .before .before .before .before .before .before .pre .0) in (ap (λ (r : List ℕ). length r % frameBytes classic) (took-reply g l (c .before .before .before .before .before .before .before .before .before .before .take-frame .ensures)) ∙ frame-whole 363 ((c .before .before .before .before .before .before .before .before .before .before .before .before .before .before .before .before .before .frame .last .1 .0)) (stateOf (c .before .before .before .before .before .before .before .before .before .before .before .before .before .before .before .before .before .before .before .before .before .before .before .before .args .session) (c .before .before .before .before .before .before .before .before .before .before .before .before .before .before .before .before .before .before .before .before .before .before .before .before .args .flash .now) (c .before .before .before .before .before .before .before .before .before .before .before .before .before .before .before .before .before .before .before .before .before .before .before .before .args .sram .now) (c .before .before .before .before .before .before .before .before .before .before .before .before .before .before .before .before .before .before .before .before .before .before .before .before .args .usd .now)), omega (arith, k, f, o .long, (c .before .before .before .before .before .before .before .before .before .before .before .before .before .before .before .before .before .before .before .before .before .before .before .before .pre .1))))
     (λ c. search needs)
     (λ c. search needs)
     (λ c. search needs)

@@ -11,7 +11,7 @@ use Rattle.memories.specs.Memories.{memories}
 use Rattle.memories.proofs.Memories.{proper-length}
 use Rattle.command.specs.Says.{says}
 use Rattle.can.specs.Conversation.{commandBytes}
-use Rattle.can.proofs.Frames.{frame-length, frame-dlc, carried-length}
+use Rattle.frames.proofs.Frames.{frame-length, frame-dlc, carried-length}
 use Rattle.boot.specs.Session.{gathered}
 use Rattle.boot.specs.Calls.{Framed, bears, decide, sent}
 use Rattle.boot.proofs.Sound.{sound-taken, sound-expected}

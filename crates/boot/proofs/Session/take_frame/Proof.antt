@@ -4,7 +4,7 @@ use mathlib.Core.Path.{sym, ap, _∙_}
 use lib.Dec.{leb, leb→le}
 use lib.ListN.{length}
 use Rattle.memories.specs.Memories.{memories, proper}
-use Rattle.can.specs.Frames.{classic, isFrame}
+use Rattle.frames.specs.Frames.{classic, isFrame}
 use Rattle.boot.specs.Causes.{accepts}
 use Rattle.boot.specs.Calls.{causeFor}
 use Rattle.boot.specs.Promise.{givenFrame}

@@ -1,5 +1,5 @@
 -- By the reply: data and a checksum fill their frames.
-use Rattle.can.proofs.Cutting.{rest-single, rest-large}
+use Rattle.can.proofs.Alone.{rest-single, rest-large}
 use Rattle.can.proofs.say.piece_of.Statement.{statement}
 use Rattle.can.proofs.say.piece_of.Tie as tie
 

@@ -7,8 +7,8 @@ use lib.ListN.{length}
 use Rattle.words.proofs.Tests.{past}
 use lib.Seq.{length-take-le}
 use Rattle.words.proofs.Slices.{to-the-end}
-use Rattle.can.specs.Frames.{classic}
-use Rattle.can.proofs.Cutting.{none-alone, first-fits, length-alone, alone-said}
+use Rattle.frames.specs.Frames.{classic}
+use Rattle.can.proofs.Alone.{none-alone, first-fits, length-alone, alone-said}
 use Rattle.can.proofs.say.put_reply.Statement.{statement}
 use Rattle.can.proofs.say.put_reply.Tie as tie
 
@@ -19,7 +19,6 @@ put-reply-spec =
     (λ c. none-alone classic (c .before .before .before .args .id) (c .before .before .before .args .piece) (c .before .before .before .args .bytes .now) (c .before .before .before .args .buffer .now) (c .if1 .taken))
     (λ c. let l = (c .before .before .before .before .args .bytes .now) in let p = past 0 (length l) (omega arith) (c .before .if1 .left) in sym (length-take-le 1 l p))
     (λ c κs. let l = (c .before .before .before .before .before .args .bytes .now) in let p = past 0 (length l) (omega arith) (c .before .before .if1 .left) in let a = length-alone classic (c .before .before .before .before .before .args .id) (c .before .before .before .before .before .args .piece) l p (omega arith) in (first-fits classic (c .before .before .before .before .before .args .id) (c .before .before .before .before .before .args .piece) l p (omega arith), omega arith, omega (arith, a, (c .before .before .before .before .before .pre .2))))
-    (λ c. search needs)
     (λ c. search needs)
     (λ c. search needs)
     (λ c. search needs)

@@ -7,7 +7,7 @@ use Rattle.words.specs.Lists.{join}
 use Rattle.memories.specs.Memories.{memories}
 use Rattle.command.specs.Says.{says, Said}
 use Rattle.can.specs.Conversation.{commandBytes}
-use Rattle.can.proofs.Cutting.{reply-alone, alone-room, said-taken}
+use Rattle.can.proofs.Alone.{reply-alone, alone-room, said-taken}
 use Rattle.can.proofs.say.say.Statement.{statement}
 use Rattle.can.proofs.say.say.Tie as tie
 

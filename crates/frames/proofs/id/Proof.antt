@@ -2,8 +2,8 @@
 use borrow.Author.Needs.{needs}
 use native.Mathlib.Omega.{arith}
 use Rattle.words.proofs.Slices.{take-two}
-use Rattle.can.proofs.frame.id.Statement.{statement}
-use Rattle.can.proofs.frame.id.Tie as tie
+use Rattle.frames.proofs.id.Statement.{statement}
+use Rattle.frames.proofs.id.Tie as tie
 
 pub id-spec : {M : Type 1} → statement M
 id-spec =

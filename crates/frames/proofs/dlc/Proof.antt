@@ -1,8 +1,8 @@
 -- A byte of a slice is below 256, so it fits.
 use borrow.Author.Needs.{needs}
 use native.Mathlib.Omega.{arith}
-use Rattle.can.proofs.frame.dlc.Statement.{statement}
-use Rattle.can.proofs.frame.dlc.Tie as tie
+use Rattle.frames.proofs.dlc.Statement.{statement}
+use Rattle.frames.proofs.dlc.Tie as tie
 
 pub dlc-spec : {M : Type 1} → statement M
 dlc-spec =

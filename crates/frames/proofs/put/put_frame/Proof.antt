@@ -2,9 +2,9 @@
 use borrow.Author.Needs.{needs}
 use native.Mathlib.Omega.{arith}
 use mathlib.Core.Path.{_∙_}
-use Rattle.can.proofs.Cutting.{frame-written}
-use Rattle.can.proofs.say.put_frame.Statement.{statement}
-use Rattle.can.proofs.say.put_frame.Tie as tie
+use Rattle.frames.proofs.Cutting.{frame-written}
+use Rattle.frames.proofs.put.put_frame.Statement.{statement}
+use Rattle.frames.proofs.put.put_frame.Tie as tie
 
 pub put-frame-spec : {M : Type 1} → statement M
 put-frame-spec =

@@ -1,9 +1,11 @@
+pub mod put;
+
 ghost use mathlib.Core.Path.{_≡_};
 ghost use Prim.Native.Nat.{_≤_, _<_};
 ghost use lib.Dec.{T};
 ghost use lib.ListN.{length, getD};
 ghost use Rattle.board.specs.Quantities.{addressBytes};
-ghost use Rattle.can.specs.Frames.{classic, headBytes, frameIn, isFrame, carried};
+ghost use Rattle.frames.specs.Frames.{classic, headBytes, frameIn, isFrame, carried};
 
 // The bytes of a frame before its data: ID and DLC.
 pub const HEAD: usize = 3;

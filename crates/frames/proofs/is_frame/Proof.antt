@@ -2,8 +2,8 @@
 use borrow.Author.Needs.{needs}
 use borrow.Author.Tests.{eq-eqb, ne-eqb}
 use lib.ListN.{length}
-use Rattle.can.proofs.frame.is_frame.Statement.{statement}
-use Rattle.can.proofs.frame.is_frame.Tie as tie
+use Rattle.frames.proofs.is_frame.Statement.{statement}
+use Rattle.frames.proofs.is_frame.Tie as tie
 
 pub is-frame-spec : {M : Type 1} → statement M
 is-frame-spec =

@@ -12,16 +12,16 @@ pub record Kind : Type 0 where
   pub largest : ℕ
 
 -- the kind of a size
-abbrev pub kindOf : ℕ → Kind
-kindOf n = record { largest = n }
+abbrev pub ofSize : ℕ → Kind
+ofSize n = record { largest = n }
 
 -- classic CAN
 abbrev pub classic : Kind
-classic = kindOf 8
+classic = ofSize 8
 
--- a DLC is one byte
-abbrev pub largestDlc : ℕ
-largestDlc = 255
+-- what one byte holds
+abbrev pub largestByte : ℕ
+largestByte = 255
 
 -- a frame: ID, DLC, data bytes
 pub record Frame : Type 0 where
@@ -29,13 +29,16 @@ pub record Frame : Type 0 where
   pub dlc : ℕ
   pub bytes : List ℕ
 
--- the bytes before the data: ID (two bytes, high first) and DLC
-abbrev pub headBytes : ℕ
-headBytes = 3
+-- the bytes of an ID, and those before the data: ID (high byte first) and DLC
+abbrev pub idBytes : ℕ
+idBytes = 2
 
--- the bytes of a classic frame
-abbrev pub frameBytes : ℕ
-frameBytes = headBytes + classic .largest
+abbrev pub headBytes : ℕ
+headBytes = idBytes + 1
+
+-- the bytes of a frame of a kind
+abbrev pub frameBytes : Kind → ℕ
+frameBytes k = headBytes + k .largest
 
 -- the largest ID
 abbrev pub largestId : ℕ
@@ -43,7 +46,7 @@ largestId = 0x7FF
 
 -- the frame that a slice holds
 abbrev pub frameIn : List ℕ → Frame
-frameIn l = record { id = number (take 2 l); dlc = getD l 2 0; bytes = drop headBytes l }
+frameIn l = record { id = number (take idBytes l); dlc = getD l idBytes 0; bytes = drop headBytes l }
 
 -- the data bytes that count
 abbrev pub carried : Frame → List ℕ
@@ -60,7 +63,7 @@ frameOf id l = record { id = id; dlc = length l; bytes = l }
 -- a slice holds a frame of a kind
 abbrev pub isFrame : Kind → List ℕ → Bool
 isFrame k l =
-    eqb (length l) (headBytes + k .largest) && leb (frameIn l .id) largestId && leb (frameIn l .dlc) (k .largest)
+    eqb (length l) (frameBytes k) && leb (frameIn l .id) largestId && leb (frameIn l .dlc) (k .largest)
 
 -- a reply frame: unused data bytes are 0
 abbrev pub frame : Kind → ℕ → List ℕ → List ℕ

@@ -3,11 +3,11 @@ use borrow.Author.Needs.{needs}
 use native.Mathlib.Omega.{arith}
 use mathlib.Core.Path.{_≡_, refl}
 use Prim.Native.Nat.{_+_, _-_}
-use Rattle.can.specs.Frames.{frameIn}
-use Rattle.can.proofs.Good.{carried-byte}
-use Rattle.can.proofs.Frames.{frame-length, frame-dlc}
-use Rattle.can.proofs.frame.carried.Statement.{statement}
-use Rattle.can.proofs.frame.carried.Tie as tie
+use Rattle.frames.specs.Frames.{frameIn}
+use Rattle.frames.proofs.Frames.{carried-byte}
+use Rattle.frames.proofs.Frames.{frame-length, frame-dlc}
+use Rattle.frames.proofs.carried.Statement.{statement}
+use Rattle.frames.proofs.carried.Tie as tie
 
 pub carried-spec : {M : Type 1} → statement M
 carried-spec =
