@@ -1,6 +1,7 @@
 ghost use mathlib.Core.Path.{_≡_};
+ghost use Prim.Native.Nat.{_≤_, _<_};
 ghost use Rattle.board.specs.Board.{extentOf};
-ghost use Rattle.board.specs.Quantities.{countOf, startOf, offsetIn};
+ghost use Rattle.board.specs.Quantities.{largestCount, countOf, oneLess, startOf, sectorAt, offsetIn};
 use crate::Address;
 use crate::Board;
 use crate::LessOne;
@@ -17,6 +18,14 @@ impl LessOne {
     {
         self.0 as usize + 1
     }
+
+    // What is sent for a count.
+    pub fn of(count: usize) -> LessOne
+        requires { ⌜ (1 ≤ count) × (count ≤ largestCount) ⌝ }
+        ensures { λ r. ⌜ r ≡ oneLess count ⌝ }
+    {
+        LessOne((count - 1) as u16)
+    }
 }
 
 impl Sector {
@@ -25,6 +34,14 @@ impl Sector {
         ensures { λ r. ⌜ r ≡ startOf self ⌝ }
     {
         self.0 as usize * Board::SECTOR_BYTES
+    }
+
+    // The sector in which a byte of flash lies.
+    pub fn at(offset: usize) -> Sector
+        requires { ⌜ offset < extentOf Region.Flash .bytes ⌝ }
+        ensures { λ r. ⌜ r ≡ sectorAt offset ⌝ }
+    {
+        Sector((offset / Board::SECTOR_BYTES) as u16)
     }
 }
 

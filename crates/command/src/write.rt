@@ -25,9 +25,9 @@ fn touches_protected(usd: &[u8], at: usize, x: usize) -> bool
     requires { ⌜ (length (now usd) ≡ extentOf Usd .bytes) × (0 < x) × (at + x ≤ extentOf Flash .bytes) ⌝ }
     ensures { λ r. ⌜ r ≡ any (writeProtected (now (usd .entry))) (touched at x) ⌝ }
 {
-    let first = at / Board::SECTOR_BYTES;
-    let last = (at + x - 1) / Board::SECTOR_BYTES;
-    Board::any_write_protected(usd, Sector(first as u16), last - first + 1)
+    let first = Sector::at(at);
+    let last = Sector::at(at + x - 1);
+    Board::any_write_protected(usd, first, (last.0 - first.0) as usize + 1)
 }
 
 // Whether x bytes may be written into flash.

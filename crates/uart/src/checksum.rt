@@ -6,6 +6,7 @@ ghost use Rattle.board.specs.Board.{sectors};
 ghost use Rattle.board.specs.Quantities.{largestCount};
 ghost use Rattle.memories.specs.Effects.{stagedBytes};
 ghost use Rattle.uart.specs.Conversation.{complemented, checks, checksCounted, checksNumbered};
+use board::LessOne;
 
 // Whether the first two bytes are a byte and its complement.
 pub fn complemented(bytes: &[u8]) -> bool
@@ -20,7 +21,7 @@ pub fn checks_counted(bytes: &[u8], x: usize) -> bool
     requires { ⌜ (length (now bytes) ≡ stagedBytes) × (1 ≤ x) × (x ≤ largestCount) ⌝ }
     ensures { λ r. ⌜ r ≡ checksCounted x (now (bytes .entry)) ⌝ }
 {
-    bytes[x] == words::xor_from((x - 1) as u8, bytes, x)
+    bytes[x] == words::xor_from(LessOne::of(x).0 as u8, bytes, x)
 }
 
 // Whether the byte behind x two-byte numbers is the XOR of them and of the selector.
@@ -29,7 +30,7 @@ pub fn checks_numbered(bytes: &[u8], x: usize) -> bool
     ensures { λ r. ⌜ r ≡ checksNumbered x (now (bytes .entry)) ⌝ }
 {
     let end = 2 * x;
-    bytes[end] == words::xor_from((x - 1) as u8, bytes, end)
+    bytes[end] == words::xor_from(LessOne::of(x).0 as u8, bytes, end)
 }
 
 // Whether a byte is the XOR of the two low bytes of a special selector.

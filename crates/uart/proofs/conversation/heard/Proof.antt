@@ -1,7 +1,6 @@
 -- More bytes are gathered; the last one ends the step.
 use borrow.Author.Needs.{needs}
 use native.Mathlib.Omega.{arith}
-use native.Mathlib.Omega.{arith}
 use Rattle.command.specs.Decision.{if_gives_else_}
 use Rattle.uart.proofs.conversation.heard.Statement.{statement}
 use Rattle.uart.proofs.conversation.heard.Tie as tie
