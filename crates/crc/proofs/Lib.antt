@@ -1,1 +1,3 @@
 pub mod CheckValue
+mod Linear
+mod Tables

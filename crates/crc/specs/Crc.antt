@@ -1,6 +1,8 @@
 -- CRC-32/MPEG-2, high bit first, no reflection, no final XOR: document 01, "CRC".
-use Prim.Native.Nat.{ℕ, zero, suc, _*_, _%_, _^_}
+use Prim.Native.Nat.{ℕ, zero, suc, _*_, _%_, _^_, _<_}
+use mathlib.Core.Path.{_≡_}
 use mathlib.Core.List.{List, [], _∷_}
+use lib.ListN.{length, getD}
 use lib.Dec.{leb}
 use lib.Bits.{bitXor}
 use Rattle.words.specs.Choice.{if_then_else_}
@@ -33,3 +35,11 @@ crcFrom c (b ∷ bs) = crcFrom (fed c b) bs
 -- the checksum of a list of bytes
 abbrev pub crc : List ℕ → ℕ
 crc bs = crcFrom start bs
+
+-- a table of bytes: what n moves make of a register that has one of them at its high end, and nothing else
+abbrev pub tableSize : ℕ
+tableSize = 256
+
+pub record Table (n : ℕ) (t : List ℕ) : Type 0 where
+  pub size : length t ≡ tableSize
+  pub entry : (i : ℕ) → i < tableSize → getD t i 0 ≡ shiftedBy n (i * 2 ^ 24)
