@@ -92,14 +92,14 @@ impl Session {
     }
 
     // Whether the session is on a carrier.
-    pub fn on(self, carrier: Carrier) -> bool
+    pub(crate) fn on(self, carrier: Carrier) -> bool
         ensures { λ r. ⌜ r ≡ on carrier self ⌝ }
     {
         self.carrier == carrier.number()
     }
 
     // Whether the session is sound.
-    pub fn sound(self) -> bool
+    pub(crate) fn sound(self) -> bool
         ensures { λ r. ⌜ r ≡ sound self ⌝ }
     {
         (self.carrier <= crate::RUNNING)
@@ -109,7 +109,7 @@ impl Session {
     }
 
     // The session with new bytes taken, as far as they are expected.
-    pub fn gather(mut self, new: &[u8]) -> Session
+    pub(crate) fn gather(mut self, new: &[u8]) -> Session
         requires { ⌜ (self .taken < self .expected) × (self .expected ≤ stagedBytes) ⌝ }
         ensures { λ r. ⌜ r ≡ gathered (now (new .entry)) self ⌝ }
     {
@@ -121,7 +121,7 @@ impl Session {
     }
 
     // The session after an input of a carrier, given the session with the input's bytes taken.
-    pub fn after(self, carrier: Carrier, taken: Session, next: Next) -> Session
+    pub(crate) fn after(self, carrier: Carrier, taken: Session, next: Next) -> Session
         ensures { λ r. ⌜ r ≡ after carrier taken next self ⌝ }
     {
         match next {

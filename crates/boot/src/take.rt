@@ -28,7 +28,7 @@ fn lengths_right(flash: usize, sram: usize, usd: usize) -> bool
 
 impl Cause {
     // Whether the call is accepted.
-    pub fn accepts(self) -> bool
+    pub(crate) fn accepts(self) -> bool
         ensures { λ r. ⌜ r ≡ accepts self ⌝ }
     {
         match self {
@@ -56,7 +56,7 @@ impl Session {
     }
 
     // The first cause that holds.
-    pub fn cause(self, memories: bool, room: bool, frame: bool) -> Cause
+    pub(crate) fn cause(self, memories: bool, room: bool, frame: bool) -> Cause
         ensures { λ r. ⌜ r ≡ causeOf memories room frame self ⌝ }
     {
         if !memories {
