@@ -10,7 +10,7 @@ use crate::line::FIELD;
 use crate::line::ID;
 
 // Puts the bytes that hex bytes write at the front of a slice, and tells how many they are.
-fn bytes(rest: &[u8], out: &mut [u8]) -> usize
+pub fn bytes(rest: &[u8], out: &mut [u8]) -> usize
     requires { ⌜ T (areFields (now rest)) × (length (now rest) ≤ fieldCharacters * length (now out)) ⌝ }
     ensures { λ r. ⌜ (r ≡ length (fields (now (rest .entry)))) × (now (out .exit) ≡ put (now (out .entry)) 0 (fields (now (rest .entry)))) ⌝ }
 {

@@ -1,0 +1,97 @@
+// Makes single calls that vectors describe, each on a session, memories and a reply buffer of its own, and prints what each left (docs/VECTORS.md).
+ghost use Prim.Native.Nat.{_≤_, _<_};
+ghost use lib.ListN.{length};
+ghost use Rattle.calls.specs.Sizes.{replyRoom};
+
+mod report;
+mod vector;
+
+use libc::STDIN_FILENO;
+use lines::line;
+use lines::line::FIELD;
+use lines::written;
+use vector::BYTES;
+
+// How many bytes a short number takes, and a long one.
+const SHORT: usize = 4;
+
+const LONG: usize = 8;
+
+// Where the bytes begin in the line of a vector or of an answer.
+const FIELDS: usize = 1;
+
+// Where a vector's bytes end in its line, and how many characters that has with its LF.
+const FIELDS_END: usize = FIELDS + FIELD * BYTES;
+
+const LINE: usize = FIELDS_END + 1;
+
+// How many vectors are read at most, a number that no run uses up.
+const TURNS: u64 = 0x0008_0000_0000_0000;
+
+// A byte as a number, of which a caller thereby knows that it is below 256.
+fn wide(byte: u8) -> u64
+    ensures { λ r. ⌜ r < 256 ⌝ }
+{
+    byte as u64
+}
+
+// Makes the call of a vector on what is lent, prints what it left, and tells whether it could.
+fn answer_on(
+    vector: &[u8; BYTES],
+    letter: u8,
+    flash: &mut [u8],
+    sram: &mut [u8],
+    usd: &mut [u8],
+    buffer: &mut [u8],
+) -> bool
+    requires { ⌜ length (now buffer) ≤ replyRoom ⌝ }
+{
+    vector::fill_lent(vector, flash, sram, usd, buffer);
+    let taken = vector::call(vector, letter, flash, sram, usd, buffer);
+    report::report(taken, flash, sram, usd, buffer)
+}
+
+// Lends as much as a vector says, from rooms that are larger, and answers it.
+fn answer(vector: &[u8; BYTES], letter: u8) -> bool {
+    let mut flash = io::large_buffer();
+    let mut sram = io::large_buffer();
+    let mut usd = io::buffer();
+    let mut buffer = io::buffer();
+    let f = vector::extent(vector, vector::FLASH, &flash);
+    let s = vector::extent(vector, vector::SRAM, &sram);
+    let u = vector::extent(vector, vector::USD, &usd);
+    let b = vector::extent(vector, vector::BUFFER, &buffer);
+    answer_on(
+        vector,
+        letter,
+        &mut flash[..f],
+        &mut sram[..s],
+        &mut usd[..u],
+        &mut buffer[..b],
+    )
+}
+
+// Reads a vector and answers it, and tells whether there was one.
+fn turn() -> bool {
+    let mut text = [0u8; LINE];
+    let n = io::read_full(STDIN_FILENO, &mut text);
+    if n < LINE {
+        return false;
+    }
+    let good = line::are_fields(&text[FIELDS..FIELDS_END]);
+    if !good {
+        return false;
+    }
+    let mut vector = [0u8; BYTES];
+    written::bytes(&text[FIELDS..FIELDS_END], &mut vector);
+    answer(&vector, text[0])
+}
+
+fn main() {
+    for _ in 0..TURNS {
+        let going = turn();
+        if !going {
+            return;
+        }
+    }
+}

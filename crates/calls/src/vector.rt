@@ -1,0 +1,164 @@
+ghost use Prim.Native.Nat.{_+_, _≤_};
+ghost use Rattle.io.specs.Counts.{Counts};
+ghost use Rattle.calls.specs.Sizes.{vectorBytes, shortBytes, longBytes};
+use crate::SHORT;
+use crate::wide;
+use board::Board;
+use boot::Session;
+use boot::Taken;
+
+// How many bytes a vector has, and where its parts stand.
+pub const BYTES: usize = 83;
+
+const CARRIER: usize = 0;
+
+const STEP: usize = 1;
+
+const TAKEN: usize = 2;
+
+const EXPECTED: usize = 10;
+
+const ADDRESS: usize = 18;
+
+const SPEED: usize = 22;
+
+const STAGED: usize = 23;
+
+const STAGED_FRONT: usize = 25;
+
+pub const FLASH: usize = 41;
+
+pub const SRAM: usize = 47;
+
+pub const USD: usize = 53;
+
+const PROTECTION: usize = 59;
+
+const SECTORS: usize = 60;
+
+pub const BUFFER: usize = 64;
+
+const BYTE: usize = 69;
+
+const FRAME_LENGTH: usize = 70;
+
+const FRAME: usize = 71;
+
+// How many bits a short number has.
+const SHORT_BITS: u64 = 32;
+
+// How many bytes of each part a vector says one by one.
+const STAGED_GIVEN: usize = 16;
+
+const PROTECTION_GIVEN: usize = 1;
+
+const SECTORS_GIVEN: usize = 4;
+
+// Where, behind a memory's length, its seed and its stride stand.
+const SEED: usize = SHORT;
+
+const STRIDE: usize = SEED + 1;
+
+// The most bytes of a frame's slice.
+const LONGEST_FRAME: usize = 12;
+
+// The letter of a vector whose call takes a byte.
+const TAKES_BYTE: u8 = b'B';
+
+// The short number that stands at a place of a vector, high first.
+fn short_number(vector: &[u8; BYTES], at: usize) -> u32
+    requires { ⌜ at + shortBytes ≤ vectorBytes ⌝ }
+{
+    words::number4(vector[at], vector[at + 1], vector[at + 2], vector[at + 3])
+}
+
+// The long number that stands at a place of a vector, high first.
+fn long_number(vector: &[u8; BYTES], at: usize) -> u64
+    requires { ⌜ at + longBytes ≤ vectorBytes ⌝ }
+{
+    let high = short_number(vector, at) as u64;
+    let low = short_number(vector, at + SHORT) as u64;
+    (high << SHORT_BITS) | low
+}
+
+// How many bytes a memory is to have, which a vector says at a place, and no more than there is room for.
+pub fn extent(vector: &[u8; BYTES], at: usize, room: &[u8]) -> usize
+    requires { ⌜ at + shortBytes ≤ vectorBytes ⌝ }
+    ensures { λ r. ⌜ Counts r (now (room .entry)) ⌝ }
+{
+    words::least(short_number(vector, at) as usize, room.len())
+}
+
+// Fills a memory by a seed and a stride from each byte to the next.
+fn fill(memory: &mut [u8], seed: u8, stride: u8) {
+    let mut value = seed;
+    for i in 0..memory.len() {
+        memory[i] = value;
+        value = std::num::wrapping_add_u8(value, stride);
+    }
+}
+
+// Lays n bytes of a vector, from a place of theirs on, over a memory as far as it reaches.
+fn lay(memory: &mut [u8], at: usize, vector: &[u8; BYTES], from: usize, n: usize)
+    requires { ⌜ from + n ≤ vectorBytes ⌝ }
+{
+    let end = memory.len();
+    if at < end {
+        words::copy(memory, at, vector, from, words::least(end - at, n));
+    }
+}
+
+// Fills user system data by its seed and stride, and by the bytes that a vector says one by one.
+fn fill_usd(vector: &[u8; BYTES], usd: &mut [u8]) {
+    fill(usd, vector[USD + SEED], vector[USD + STRIDE]);
+    lay(usd, Board::PROTECTION, vector, PROTECTION, PROTECTION_GIVEN);
+    lay(usd, Board::SECTOR_BITS, vector, SECTORS, SECTORS_GIVEN);
+}
+
+// Fills what is lent as a vector says.
+pub fn fill_lent(
+    vector: &[u8; BYTES],
+    flash: &mut [u8],
+    sram: &mut [u8],
+    usd: &mut [u8],
+    buffer: &mut [u8],
+) {
+    fill(flash, vector[FLASH + SEED], vector[FLASH + STRIDE]);
+    fill(sram, vector[SRAM + SEED], vector[SRAM + STRIDE]);
+    fill_usd(vector, usd);
+    fill(buffer, vector[BUFFER + SEED], 0);
+}
+
+// The session that a vector says.
+fn session(vector: &[u8; BYTES]) -> Session {
+    let mut staged = [0u8; memories::STAGED];
+    fill(&mut staged, vector[STAGED], vector[STAGED + 1]);
+    words::copy(&mut staged, 0, vector, STAGED_FRONT, STAGED_GIVEN);
+    Session {
+        carrier: vector[CARRIER],
+        step: vector[STEP],
+        taken: long_number(vector, TAKEN) as usize,
+        expected: long_number(vector, EXPECTED) as usize,
+        address: short_number(vector, ADDRESS),
+        speed: vector[SPEED],
+        staged: staged,
+    }
+}
+
+// Makes the call of a vector, whose letter says which.
+pub fn call(
+    vector: &[u8; BYTES],
+    letter: u8,
+    flash: &mut [u8],
+    sram: &mut [u8],
+    usd: &mut [u8],
+    buffer: &mut [u8],
+) -> Taken {
+    let before = session(vector);
+    if letter == TAKES_BYTE {
+        return before.take_byte(vector[BYTE], flash, sram, usd, buffer);
+    }
+    let end = FRAME + words::least(wide(vector[FRAME_LENGTH]) as usize, LONGEST_FRAME);
+    let bytes = &vector[..];
+    before.take_frame(&bytes[FRAME..end], flash, sram, usd, buffer)
+}
