@@ -2,3 +2,4 @@ pub mod Telling
 pub mod Hearing
 pub mod Whole
 pub mod Example
+pub mod Passing

@@ -1,12 +1,16 @@
 -- What the functions that answer promise: every part of what they give back and every byte lent.
-use Prim.Native.Nat.{ℕ, _+_, _*_}
+use Prim.Native.Nat.{ℕ, _+_, _*_, _≤_}
 use mathlib.Core.Path.{_≡_}
-use mathlib.Core.List.{List}
-use lib.ListN.{length, take}
+use mathlib.Core.List.{List, map}
+use lib.Dec.{T}
+use lib.ListN.{length, take, drop}
 use Rattle.words.specs.Over.{put}
+use Rattle.boot.specs.Calls.{Byte}
 use Rattle.boot.specs.Promise.{stateOf}
+use Rattle.boot.specs.declared.Session.{Session}
+use Rattle.lines.specs.Lines.{areFields, fields}
 use Rattle.lines.specs.Prints.{numberRoom}
-use Rattle.answers.specs.Answers.{deskRoom}
+use Rattle.answers.specs.Answers.{deskRoom, tells}
 use Rattle.answers.specs.Desk as D
 use Rattle.answers.specs.Told.{Told}
 use Rattle.answers.specs.declared.Desk.{Desk}
@@ -16,6 +20,13 @@ pub record Tells {A : Type 0} (t : Told A) (at : ℕ) (before : List ℕ) (until
   pub end : until ≡ at + length (t .text)
   pub text : after ≡ put before at (t .text)
   pub state : now ≡ t .state
+
+-- a session takes the first characters of some hex bytes, n of them, at once: nothing is told of these, and another session is left
+pub record Passes (s : Session) (flash sram usd : ℕ) (rest : List ℕ) (next : Session) (n : ℕ) : Type 0 where
+  pub within : n ≤ length rest
+  pub left : T (areFields (drop n rest))
+  pub told : (f r u : List ℕ) → length f ≡ flash → length r ≡ sram → length u ≡ usd
+      → tells (map (Byte deskRoom) (fields rest)) (stateOf s f r u) ≡ tells (map (Byte deskRoom) (fields (drop n rest))) (stateOf next f r u)
 
 -- the most characters of the notice that bears a line's number
 abbrev pub noticeRoom : ℕ

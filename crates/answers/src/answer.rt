@@ -8,8 +8,9 @@ ghost use Rattle.boot.specs.Calls.{Byte, Framed};
 ghost use Rattle.boot.specs.Promise.{stateOf};
 ghost use Rattle.lines.specs.Lines.{fieldCharacters, areFields, fields, areFrame, frameWritten, kindOf};
 ghost use Rattle.answers.specs.Answers.{deskRoom, tell, tells, callsOf, obeyed, notice, answer};
-ghost use Rattle.answers.specs.Promise.{Tells, noticeRoom, answerRoom};
+ghost use Rattle.answers.specs.Promise.{Tells, Passes, noticeRoom, answerRoom};
 use crate::Answered;
+use crate::Passed;
 use boot::Session;
 use lines::Kind;
 use lines::digits;
@@ -54,6 +55,27 @@ fn tell_byte(
     }
 }
 
+// Takes at once as many of the first hex bytes as the session only gathers, given the lengths of the memories.
+fn pass(session: Session, rest: &[u8], flash: usize, sram: usize, usd: usize) -> Passed
+    requires { ⌜ T (areFields (now rest)) ⌝ }
+    ensures { λ r. ⌜ Passes session flash sram usd (now (rest .entry)) (r .session) (r .characters) ⌝ }
+{
+    let n = session.silent(rest.len() / FIELD, flash, sram, usd);
+    if n == 0 {
+        return Passed {
+            session: session,
+            characters: 0,
+        };
+    }
+    let characters = FIELD * n;
+    let mut new = [0u8; memories::STAGED];
+    written::bytes(&rest[..characters], &mut new);
+    Passed {
+        session: session.gather(&new[..n]),
+        characters: characters,
+    }
+}
+
 // Makes the calls of hex bytes one after another, and prints their replies.
 fn tell_bytes(
     session: Session,
@@ -75,9 +97,16 @@ fn tell_bytes(
     };
     let mut i = 0;
     while i < n {
-        let byte = digits::byte_in(rest[i + 1], rest[i + 2]);
         let here = told.session;
-        told = tell_byte(here, byte, flash, sram, usd, out, told.end);
+        let passed = pass(here, &rest[i..], flash.len(), sram.len(), usd.len());
+        let next = passed.session;
+        i += passed.characters;
+        told.session = next;
+        if n <= i {
+            continue;
+        }
+        let byte = digits::byte_in(rest[i + 1], rest[i + 2]);
+        told = tell_byte(next, byte, flash, sram, usd, out, told.end);
         i += FIELD;
     }
     told

@@ -4,3 +4,4 @@ pub mod Sound
 pub mod Good
 pub mod Accept
 pub mod Causes
+pub mod Silent

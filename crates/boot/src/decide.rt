@@ -53,7 +53,13 @@ impl Session {
     }
 
     // What one CAN frame decides, given its ID, the data bytes that count, and the session with these taken.
-    pub(crate) fn decide_frame(self, id: u16, carried: &[u8], taken: Session, usd: &[u8]) -> Decision
+    pub(crate) fn decide_frame(
+        self,
+        id: u16,
+        carried: &[u8],
+        taken: Session,
+        usd: &[u8],
+    ) -> Decision
         requires { ⌜ T (sound self) × (taken ≡ gathered (now carried) self) × (length (now usd) ≡ extentOf Usd .bytes) × (length (now carried) ≤ classic .largest) ⌝ }
         ensures { λ r. ⌜ r ≡ decideFrame self (now (usd .entry)) (frameOf id (now (carried .entry))) ⌝ }
     {

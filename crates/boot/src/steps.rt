@@ -109,7 +109,7 @@ impl Session {
     }
 
     // The session with new bytes taken, as far as they are expected.
-    pub(crate) fn gather(mut self, new: &[u8]) -> Session
+    pub fn gather(mut self, new: &[u8]) -> Session
         requires { ⌜ (self .taken < self .expected) × (self .expected ≤ stagedBytes) ⌝ }
         ensures { λ r. ⌜ r ≡ gathered (now (new .entry)) self ⌝ }
     {

@@ -1,8 +1,8 @@
 -- Laws of lines and their fields: the kind by the length, the first field, and characters that are too few for one.
 use mathlib.Core.Path.{_≡_, refl, sym, ap, subst, _∙_}
 use mathlib.Core.Bool.{Bool, true, false, _&&_}
-use mathlib.Core.List.{List, [], _∷_}
-use Prim.Native.Nat.{ℕ, suc, _+_, _*_, _≤_, _<_}
+use mathlib.Core.List.{List, [], _∷_, _++_}
+use Prim.Native.Nat.{ℕ, zero, suc, _+_, _*_, _≤_, _<_}
 use native.Mathlib.Nat.{not-suc-le-zero, le-of-suc-le-suc}
 use native.Mathlib.Omega.{arith}
 use lib.Dec.{T, eqb, leb, ltb, leb→le}
@@ -13,7 +13,7 @@ use Rattle.words.specs.Choice.{if_then_else_}
 use Rattle.words.specs.Bytes.{number}
 use Rattle.words.specs.Over.{put}
 use Rattle.words.proofs.Over.{put-front, put-all}
-use Rattle.words.proofs.Tests.{both-left, both-right}
+use Rattle.words.proofs.Tests.{both-left, both-right, holds-true}
 use Rattle.frames.specs.Frames.{classic, frameBytes, frame}
 use Rattle.frames.proofs.Cutting.{length-frame}
 use Rattle.words.specs.Hex.{valueOf}
@@ -220,3 +220,29 @@ frame-line line e = by-line line (subst (λ (k : Kind). T (isFrame k)) (sym e) t
     by-line [] t = absurd t
     by-line (c ∷ rest) t =
         (omega arith, frame-where (ltb (length rest) mostCharacters) (eqb c letterU && ltb 0 (length rest)) (areFields rest) (eqb c letterP && eqb (length rest) 0) (eqb c letterC) (areFrame rest) t)
+
+-- ---- hex bytes in two parts
+
+-- the first k of them, and the others
+pub record Parted (s : List ℕ) (k : ℕ) : Type 0 where
+  pub front : T (areFields (take (3 * k) s))
+  pub back : T (areFields (drop (3 * k) s))
+  pub joined : fields s ≡ fields (take (3 * k) s) ++ fields (drop (3 * k) s)
+  pub count : length (fields (take (3 * k) s)) ≡ k
+
+pub parted : (k : ℕ) (s : List ℕ) → T (areFields s) → 3 * k ≤ length s → Parted s k
+parted zero s t h = record { front = tt; back = t; joined = refl; count = refl }
+parted (suc k) [] t h = absurd (omega arith)
+parted (suc k) (a ∷ []) t h = absurd t
+parted (suc k) (a ∷ b ∷ []) t h = absurd t
+parted (suc k) (a ∷ b ∷ d ∷ s) t h =
+    let e : 3 * suc k ≡ suc (suc (suc (3 * k))) = omega arith in
+    let f = isField a b d in
+    let p = parted k s (both-right f (areFields s) t) (omega arith) in
+    let g = both-left f (areFields s) t in
+    record {
+      front = rw (e, holds-true f g) (p .front);
+      back = rw e (p .back);
+      joined = rw e (ap (λ (l : List ℕ). byteIn b d ∷ l) (p .joined));
+      count = rw e (ap suc (p .count));
+    }

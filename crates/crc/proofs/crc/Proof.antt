@@ -1,9 +1,9 @@
 -- Before each turn the register and the bytes that are left give the whole checksum.
 use borrow.Author.Needs.{needs}
 use native.Mathlib.Omega.{arith}
-use mathlib.Core.Path.{_≡_, refl, sym, ap, _∙_}
-use Prim.Native.Nat.{ℕ, _≤_, _-_, _+_}
-use lib.ListN.{length, drop}
+use mathlib.Core.Path.{_≡_, refl, sym, _∙_}
+use Prim.Native.Nat.{_≤_, _-_}
+use lib.ListN.{drop}
 use Rattle.crc.specs.Crc.{crcFrom, crc}
 use Rattle.crc.proofs.Tables.{two-taken, last-taken, none-taken}
 use Rattle.crc.proofs.crc.Statement.{statement}

@@ -1,8 +1,8 @@
 -- Each turn fills one entry.
 use borrow.Author.Needs.{needs}
 use native.Mathlib.Omega.{arith}
-use mathlib.Core.Path.{_≡_, refl, ap, _∙_}
-use Prim.Native.Nat.{ℕ, _*_, _-_, _%_, _^_, _≤_, _<_}
+use mathlib.Core.Path.{_≡_, ap, _∙_}
+use Prim.Native.Nat.{ℕ, _*_, _-_, _^_, _≤_, _<_}
 use lib.ListN.{length, getD, length-set, length-replicate}
 use Rattle.crc.specs.Crc.{shiftedBy}
 use Rattle.crc.proofs.Linear.{moved-then}

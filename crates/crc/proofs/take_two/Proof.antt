@@ -1,11 +1,10 @@
 -- The register is in three parts: each of the two high ones has an entry, and the low one moves up.
 use borrow.Author.Needs.{needs}
 use native.Mathlib.Omega.{arith}
-use mathlib.Core.Path.{_≡_, refl, sym, ap, ap₂, _∙_}
-use Prim.Native.Nat.{ℕ, _*_, _/_, _%_, _^_}
+use mathlib.Core.Path.{refl, sym, ap, ap₂, _∙_}
+use Prim.Native.Nat.{ℕ, _/_, _%_, _^_}
 use lib.Bits.{bitXor, and-mask}
 use lib.ListN.{getD}
-use Rattle.crc.specs.Crc.{fed}
 use Rattle.crc.proofs.Tables.{two-fed}
 use Rattle.crc.proofs.take_two.Statement.{statement}
 use Rattle.crc.proofs.take_two.Tie as tie

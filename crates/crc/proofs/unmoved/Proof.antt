@@ -1,7 +1,7 @@
 -- Each turn fills one entry.
 use native.Mathlib.Omega.{arith}
-use mathlib.Core.Path.{_≡_, refl, _∙_}
-use Prim.Native.Nat.{ℕ, _*_, _-_, _%_, _^_, _≤_, _<_}
+use mathlib.Core.Path.{_≡_, _∙_}
+use Prim.Native.Nat.{ℕ, _*_, _-_, _^_, _≤_, _<_}
 use lib.ListN.{length, getD, length-set, length-replicate}
 use Rattle.crc.proofs.Tables.{filled}
 use Rattle.crc.proofs.unmoved.Statement.{statement}

@@ -1,4 +1,4 @@
--- Each turn makes the call of one field and prints its reply; before it, what is left ends as the whole does.
+-- Each turn takes at once what is only gathered, makes the call of one field more and prints its reply; before it, what is left ends as the whole does.
 use native.Mathlib.Omega.{arith}
 use mathlib.Core.Path.{_≡_, refl, _∙_}
 use mathlib.Core.List.{map}
@@ -6,12 +6,14 @@ use Prim.Native.Nat.{_≤_, _-_, _+_, _*_}
 use lib.Dec.{T}
 use lib.ListN.{length, drop}
 use lib.Seq.{drop-length}
+use Rattle.words.proofs.Slices.{to-the-end}
 use Rattle.boot.specs.Calls.{Byte}
 use Rattle.boot.specs.Promise.{stateOf}
 use Rattle.lines.specs.Lines.{areFields, fields}
 use Rattle.answers.specs.Answers.{deskRoom, tell, tells}
 use Rattle.lines.proofs.Lines.{field-good}
 use Rattle.answers.proofs.Telling.{Continues, all-left, one-told, none-left, tells-fields}
+use Rattle.answers.proofs.Passing.{passed-on}
 use Rattle.answers.proofs.answer.tell_bytes.Statement.{statement}
 use Rattle.answers.proofs.answer.tell_bytes.Tie as tie
 
@@ -29,15 +31,22 @@ tell-bytes-spec =
     Inv-loop
     μ-loop
     (λ c. (omega arith, (c .before .before .before .before .before .pre .0), omega arith, all-left _ _ _, refl, refl, refl, refl))
-    (λ c. let f = field-good (c .before .before .before .before .before .before .before .args .rest .now) (c .before .loop .i) (omega arith) (c .before .loop .inv .1) in omega (arith, f .0))
-    (λ c. let f = field-good (c .before .before .before .before .before .before .before .before .args .rest .now) (c .before .before .loop .i) (omega arith) (c .before .before .loop .inv .1) in omega (arith, f .0))
-    (λ c. let f = field-good (c .before .before .before .before .before .before .before .before .args .rest .now) (c .before .before .loop .i) (omega arith) (c .before .before .loop .inv .1) in omega (arith, f .0))
-    (λ c. let f = field-good (c .before .before .before .before .before .before .before .before .before .args .rest .now) (c .before .before .before .loop .i) (omega arith) (c .before .before .before .loop .inv .1) in omega (arith, f .0))
-    (λ c κs. let f = field-good (c .before .before .before .before .before .before .before .before .before .args .rest .now) (c .before .before .before .loop .i) (omega arith) (c .before .before .before .loop .inv .1) in (f .1, f .2))
-    (λ c κs. let f = field-good (c .before .before .before .before .before .before .before .before .before .before .before .before .before .before .before .args .rest .now) (c .before .before .before .before .before .before .before .before .before .loop .i) (omega arith) (c .before .before .before .before .before .before .before .before .before .loop .inv .1) in omega (arith, f .0))
-    (λ c. let f = field-good (c .before .before .before .before .before .before .before .before .before .before .before .before .before .before .before .before .before .before .before .before .before .before .before .before .args .rest .now) (c .before .before .before .before .before .before .before .before .before .before .before .before .before .before .before .before .before .before .loop .i) (omega arith) (c .before .before .before .before .before .before .before .before .before .before .before .before .before .before .before .before .before .before .loop .inv .1) in omega (arith, f .0, (c .before .before .before .before .before .before .before .before .before .before .before .before .before .before .before .before .before .before .before .before .before .before .before .before .good .1 .0 .0)))
-    (λ c. let f = field-good (c .before .before .before .before .before .before .before .before .before .before .before .before .before .before .before .before .before .before .before .before .before .before .before .before .args .rest .now) (c .before .before .before .before .before .before .before .before .before .before .before .before .before .before .before .before .before .before .loop .i) (omega arith) (c .before .before .before .before .before .before .before .before .before .before .before .before .before .before .before .before .before .before .loop .inv .1) in omega (arith, f .0))
-    (λ c. let f = field-good (c .before .before .before .before .before .before .before .before .before .before .before .before .before .before .before .before .before .before .before .before .before .before .before .before .args .rest .now) (c .before .before .before .before .before .before .before .before .before .before .before .before .before .before .before .before .before .before .loop .i) (omega arith) (c .before .before .before .before .before .before .before .before .before .before .before .before .before .before .before .before .before .before .loop .inv .1) in let p = stateOf (c .before .before .before .before .before .before .before .before .before .before .before .before .before .before .before .before .before .before .loop .told .session) (c .before .before .before .before .before .before .before .before .before .before .before .before .before .before .before .before .before .before .loop .flash) (c .before .before .before .before .before .before .before .before .before .before .before .before .before .before .before .before .before .before .loop .sram) (c .before .before .before .before .before .before .before .before .before .before .before .before .before .before .before .before .before .before .loop .usd) in let k = (c .before .before .before .before .before .before .before .before .tell-byte .kept) in (omega (arith, f .0), f .3, omega (arith, (c .before .before .before .before .before .before .before .before .tell-byte .ensures .1), (c .before .before .before .before .before .before .before .before .before .before .before .before .before .before .before .before .before .before .loop .inv .2)), one-told (tell (Byte deskRoom (c .before .before .before .before .before .before .before .before .before .before .before .before .before .before .byte-in .result)) p) (tells (map (Byte deskRoom) (fields (drop ((c .before .before .before .before .before .before .before .before .before .before .before .before .before .before .before .before .before .before .loop .i) + 3) (c .before .before .before .before .before .before .before .before .before .before .before .before .before .before .before .before .before .before .before .before .before .before .before .before .args .rest .now))))) (rw (tells-fields (c .before .before .before .before .before .before .before .before .before .before .before .before .before .before .before .before .before .before .before .before .before .before .before .before .args .rest .now) (c .before .before .before .before .before .before .before .before .before .before .before .before .before .before .before .before .before .before .loop .i) p (f .0), ← (c .before .before .before .before .before .before .before .before .before .before .before .before .before .before .byte-in .ensures)) at (c .before .before .before .before .before .before .before .before .before .before .before .before .before .before .before .before .before .before .loop .inv .3)) (c .before .before .before .before .before .before .before .before .tell-byte .ensures .0), k .1 .1 .0 ∙ (c .before .before .before .before .before .before .before .before .before .before .before .before .before .before .before .before .before .before .loop .inv .4), k .1 .1 .1 .0 ∙ (c .before .before .before .before .before .before .before .before .before .before .before .before .before .before .before .before .before .before .loop .inv .5), k .1 .1 .1 .1 .0 ∙ (c .before .before .before .before .before .before .before .before .before .before .before .before .before .before .before .before .before .before .loop .inv .6), k .1 .1 .1 .1 .1 .0 ∙ (c .before .before .before .before .before .before .before .before .before .before .before .before .before .before .before .before .before .before .loop .inv .7)))
+    (λ c. omega arith)
+    (λ c. omega arith)
+    (λ c. omega arith)
+    (λ c κs. rw (to-the-end (c .before .before .before .loop .i) (c .before .before .before .before .before .before .before .before .before .args .rest .now)) (c .before .before .before .loop .inv .1))
+    (λ c. let q = passed-on (c .before .before .before .before .before .before .before .before .before .before .before .before .args .rest .now) (c .before .before .before .before .before .before .loop .i) (c .before .before .pass .result .characters) (c .before .before .before .before .before .before .loop .told .session) (c .before .before .pass .result .session) (c .before .before .before .before .before .before .loop .flash) (c .before .before .before .before .before .before .loop .sram) (c .before .before .before .before .before .before .loop .usd) (omega arith) (c .before .before .pass .ensures) (c .before .before .before .before .before .before .loop .inv .3) in omega (arith, q .within, (c .before .before .before .before .before .before .before .before .before .before .before .before .good .1 .0 .0)))
+    (λ c. let q = passed-on (c .before .before .before .before .before .before .before .before .before .before .before .before .before .args .rest .now) (c .before .before .before .before .before .before .before .loop .i) (c .before .before .before .pass .result .characters) (c .before .before .before .before .before .before .before .loop .told .session) (c .before .before .before .pass .result .session) (c .before .before .before .before .before .before .before .loop .flash) (c .before .before .before .before .before .before .before .loop .sram) (c .before .before .before .before .before .before .before .loop .usd) (omega arith) (c .before .before .before .pass .ensures) (c .before .before .before .before .before .before .before .loop .inv .3) in omega (arith, q .within))
+    (λ c. let q = passed-on (c .before .before .before .before .before .before .before .before .before .before .before .before .before .args .rest .now) (c .before .before .before .before .before .before .before .loop .i) (c .before .before .before .pass .result .characters) (c .before .before .before .before .before .before .before .loop .told .session) (c .before .before .before .pass .result .session) (c .before .before .before .before .before .before .before .loop .flash) (c .before .before .before .before .before .before .before .loop .sram) (c .before .before .before .before .before .before .before .loop .usd) (omega arith) (c .before .before .before .pass .ensures) (c .before .before .before .before .before .before .before .loop .inv .3) in (q .within, q .fields, omega (arith, (c .before .before .before .before .before .before .before .loop .inv .2)), q .told, (c .before .before .before .before .before .before .before .loop .inv .4), (c .before .before .before .before .before .before .before .loop .inv .5), (c .before .before .before .before .before .before .before .loop .inv .6), (c .before .before .before .before .before .before .before .loop .inv .7)))
+    (λ c. let q = passed-on (c .before .before .before .before .before .before .before .before .before .before .before .before .before .args .rest .now) (c .before .before .before .before .before .before .before .loop .i) (c .before .before .before .pass .result .characters) (c .before .before .before .before .before .before .before .loop .told .session) (c .before .before .before .pass .result .session) (c .before .before .before .before .before .before .before .loop .flash) (c .before .before .before .before .before .before .before .loop .sram) (c .before .before .before .before .before .before .before .loop .usd) (omega arith) (c .before .before .before .pass .ensures) (c .before .before .before .before .before .before .before .loop .inv .3) in let f = field-good (c .before .before .before .before .before .before .before .before .before .before .before .before .before .args .rest .now) ((c .before .before .before .before .before .before .before .loop .i) + (c .before .before .before .pass .result .characters)) (omega arith) (q .fields) in omega (arith, f .0, (c .before .before .before .before .before .before .before .before .before .before .before .before .before .good .1 .0 .0)))
+    (λ c. let q = passed-on (c .before .before .before .before .before .before .before .before .before .before .before .before .before .before .args .rest .now) (c .before .before .before .before .before .before .before .before .loop .i) (c .before .before .before .before .pass .result .characters) (c .before .before .before .before .before .before .before .before .loop .told .session) (c .before .before .before .before .pass .result .session) (c .before .before .before .before .before .before .before .before .loop .flash) (c .before .before .before .before .before .before .before .before .loop .sram) (c .before .before .before .before .before .before .before .before .loop .usd) (omega arith) (c .before .before .before .before .pass .ensures) (c .before .before .before .before .before .before .before .before .loop .inv .3) in let f = field-good (c .before .before .before .before .before .before .before .before .before .before .before .before .before .before .args .rest .now) ((c .before .before .before .before .before .before .before .before .loop .i) + (c .before .before .before .before .pass .result .characters)) (omega arith) (q .fields) in omega (arith, f .0))
+    (λ c. let q = passed-on (c .before .before .before .before .before .before .before .before .before .before .before .before .before .before .args .rest .now) (c .before .before .before .before .before .before .before .before .loop .i) (c .before .before .before .before .pass .result .characters) (c .before .before .before .before .before .before .before .before .loop .told .session) (c .before .before .before .before .pass .result .session) (c .before .before .before .before .before .before .before .before .loop .flash) (c .before .before .before .before .before .before .before .before .loop .sram) (c .before .before .before .before .before .before .before .before .loop .usd) (omega arith) (c .before .before .before .before .pass .ensures) (c .before .before .before .before .before .before .before .before .loop .inv .3) in let f = field-good (c .before .before .before .before .before .before .before .before .before .before .before .before .before .before .args .rest .now) ((c .before .before .before .before .before .before .before .before .loop .i) + (c .before .before .before .before .pass .result .characters)) (omega arith) (q .fields) in omega (arith, f .0, (c .before .before .before .before .before .before .before .before .before .before .before .before .before .before .good .1 .0 .0)))
+    (λ c. let q = passed-on (c .before .before .before .before .before .before .before .before .before .before .before .before .before .before .before .args .rest .now) (c .before .before .before .before .before .before .before .before .before .loop .i) (c .before .before .before .before .before .pass .result .characters) (c .before .before .before .before .before .before .before .before .before .loop .told .session) (c .before .before .before .before .before .pass .result .session) (c .before .before .before .before .before .before .before .before .before .loop .flash) (c .before .before .before .before .before .before .before .before .before .loop .sram) (c .before .before .before .before .before .before .before .before .before .loop .usd) (omega arith) (c .before .before .before .before .before .pass .ensures) (c .before .before .before .before .before .before .before .before .before .loop .inv .3) in let f = field-good (c .before .before .before .before .before .before .before .before .before .before .before .before .before .before .before .args .rest .now) ((c .before .before .before .before .before .before .before .before .before .loop .i) + (c .before .before .before .before .before .pass .result .characters)) (omega arith) (q .fields) in omega (arith, f .0))
+    (λ c κs. let q = passed-on (c .before .before .before .before .before .before .before .before .before .before .before .before .before .before .before .args .rest .now) (c .before .before .before .before .before .before .before .before .before .loop .i) (c .before .before .before .before .before .pass .result .characters) (c .before .before .before .before .before .before .before .before .before .loop .told .session) (c .before .before .before .before .before .pass .result .session) (c .before .before .before .before .before .before .before .before .before .loop .flash) (c .before .before .before .before .before .before .before .before .before .loop .sram) (c .before .before .before .before .before .before .before .before .before .loop .usd) (omega arith) (c .before .before .before .before .before .pass .ensures) (c .before .before .before .before .before .before .before .before .before .loop .inv .3) in let f = field-good (c .before .before .before .before .before .before .before .before .before .before .before .before .before .before .before .args .rest .now) ((c .before .before .before .before .before .before .before .before .before .loop .i) + (c .before .before .before .before .before .pass .result .characters)) (omega arith) (q .fields) in (f .1, f .2))
+    (λ c κs. let q = passed-on (c .before .before .before .before .before .before .before .before .before .before .before .before .before .before .before .before .before .before .before .before .args .rest .now) (c .before .before .before .before .before .before .before .before .before .before .before .before .before .before .loop .i) (c .before .before .before .before .before .before .before .before .before .before .pass .result .characters) (c .before .before .before .before .before .before .before .before .before .before .before .before .before .before .loop .told .session) (c .before .before .before .before .before .before .before .before .before .before .pass .result .session) (c .before .before .before .before .before .before .before .before .before .before .before .before .before .before .loop .flash) (c .before .before .before .before .before .before .before .before .before .before .before .before .before .before .loop .sram) (c .before .before .before .before .before .before .before .before .before .before .before .before .before .before .loop .usd) (omega arith) (c .before .before .before .before .before .before .before .before .before .before .pass .ensures) (c .before .before .before .before .before .before .before .before .before .before .before .before .before .before .loop .inv .3) in let f = field-good (c .before .before .before .before .before .before .before .before .before .before .before .before .before .before .before .before .before .before .before .before .args .rest .now) ((c .before .before .before .before .before .before .before .before .before .before .before .before .before .before .loop .i) + (c .before .before .before .before .before .before .before .before .before .before .pass .result .characters)) (omega arith) (q .fields) in omega (arith, f .0, (c .before .before .before .before .before .before .before .before .before .before .before .before .before .before .loop .inv .2), (c .before .before .before .before .before .before .before .before .before .before .before .before .before .before .loop .inv .7), (c .before .before .before .before .before .before .before .before .before .before .before .before .before .before .before .before .before .before .before .before .pre .1)))
+    (λ c. let q = passed-on (c .before .before .before .before .before .before .before .before .before .before .before .before .before .before .before .before .before .before .before .before .before .before .before .before .before .before .before .before .before .args .rest .now) (c .before .before .before .before .before .before .before .before .before .before .before .before .before .before .before .before .before .before .before .before .before .before .before .loop .i) (c .before .before .before .before .before .before .before .before .before .before .before .before .before .before .before .before .before .before .before .pass .result .characters) (c .before .before .before .before .before .before .before .before .before .before .before .before .before .before .before .before .before .before .before .before .before .before .before .loop .told .session) (c .before .before .before .before .before .before .before .before .before .before .before .before .before .before .before .before .before .before .before .pass .result .session) (c .before .before .before .before .before .before .before .before .before .before .before .before .before .before .before .before .before .before .before .before .before .before .before .loop .flash) (c .before .before .before .before .before .before .before .before .before .before .before .before .before .before .before .before .before .before .before .before .before .before .before .loop .sram) (c .before .before .before .before .before .before .before .before .before .before .before .before .before .before .before .before .before .before .before .before .before .before .before .loop .usd) (omega arith) (c .before .before .before .before .before .before .before .before .before .before .before .before .before .before .before .before .before .before .before .pass .ensures) (c .before .before .before .before .before .before .before .before .before .before .before .before .before .before .before .before .before .before .before .before .before .before .before .loop .inv .3) in let f = field-good (c .before .before .before .before .before .before .before .before .before .before .before .before .before .before .before .before .before .before .before .before .before .before .before .before .before .before .before .before .before .args .rest .now) ((c .before .before .before .before .before .before .before .before .before .before .before .before .before .before .before .before .before .before .before .before .before .before .before .loop .i) + (c .before .before .before .before .before .before .before .before .before .before .before .before .before .before .before .before .before .before .before .pass .result .characters)) (omega arith) (q .fields) in omega (arith, f .0, (c .before .before .before .before .before .before .before .before .before .before .before .before .before .before .before .before .before .before .before .before .before .before .before .before .before .before .before .before .before .good .1 .0 .0)))
+    (λ c. let q = passed-on (c .before .before .before .before .before .before .before .before .before .before .before .before .before .before .before .before .before .before .before .before .before .before .before .before .before .before .before .before .before .args .rest .now) (c .before .before .before .before .before .before .before .before .before .before .before .before .before .before .before .before .before .before .before .before .before .before .before .loop .i) (c .before .before .before .before .before .before .before .before .before .before .before .before .before .before .before .before .before .before .before .pass .result .characters) (c .before .before .before .before .before .before .before .before .before .before .before .before .before .before .before .before .before .before .before .before .before .before .before .loop .told .session) (c .before .before .before .before .before .before .before .before .before .before .before .before .before .before .before .before .before .before .before .pass .result .session) (c .before .before .before .before .before .before .before .before .before .before .before .before .before .before .before .before .before .before .before .before .before .before .before .loop .flash) (c .before .before .before .before .before .before .before .before .before .before .before .before .before .before .before .before .before .before .before .before .before .before .before .loop .sram) (c .before .before .before .before .before .before .before .before .before .before .before .before .before .before .before .before .before .before .before .before .before .before .before .loop .usd) (omega arith) (c .before .before .before .before .before .before .before .before .before .before .before .before .before .before .before .before .before .before .before .pass .ensures) (c .before .before .before .before .before .before .before .before .before .before .before .before .before .before .before .before .before .before .before .before .before .before .before .loop .inv .3) in let f = field-good (c .before .before .before .before .before .before .before .before .before .before .before .before .before .before .before .before .before .before .before .before .before .before .before .before .before .before .before .before .before .args .rest .now) ((c .before .before .before .before .before .before .before .before .before .before .before .before .before .before .before .before .before .before .before .before .before .before .before .loop .i) + (c .before .before .before .before .before .before .before .before .before .before .before .before .before .before .before .before .before .before .before .pass .result .characters)) (omega arith) (q .fields) in omega (arith, f .0))
+    (λ c. let q = passed-on (c .before .before .before .before .before .before .before .before .before .before .before .before .before .before .before .before .before .before .before .before .before .before .before .before .before .before .before .before .before .args .rest .now) (c .before .before .before .before .before .before .before .before .before .before .before .before .before .before .before .before .before .before .before .before .before .before .before .loop .i) (c .before .before .before .before .before .before .before .before .before .before .before .before .before .before .before .before .before .before .before .pass .result .characters) (c .before .before .before .before .before .before .before .before .before .before .before .before .before .before .before .before .before .before .before .before .before .before .before .loop .told .session) (c .before .before .before .before .before .before .before .before .before .before .before .before .before .before .before .before .before .before .before .pass .result .session) (c .before .before .before .before .before .before .before .before .before .before .before .before .before .before .before .before .before .before .before .before .before .before .before .loop .flash) (c .before .before .before .before .before .before .before .before .before .before .before .before .before .before .before .before .before .before .before .before .before .before .before .loop .sram) (c .before .before .before .before .before .before .before .before .before .before .before .before .before .before .before .before .before .before .before .before .before .before .before .loop .usd) (omega arith) (c .before .before .before .before .before .before .before .before .before .before .before .before .before .before .before .before .before .before .before .pass .ensures) (c .before .before .before .before .before .before .before .before .before .before .before .before .before .before .before .before .before .before .before .before .before .before .before .loop .inv .3) in let f = field-good (c .before .before .before .before .before .before .before .before .before .before .before .before .before .before .before .before .before .before .before .before .before .before .before .before .before .before .before .before .before .args .rest .now) ((c .before .before .before .before .before .before .before .before .before .before .before .before .before .before .before .before .before .before .before .before .before .before .before .loop .i) + (c .before .before .before .before .before .before .before .before .before .before .before .before .before .before .before .before .before .before .before .pass .result .characters)) (omega arith) (q .fields) in let p = stateOf (c .before .before .before .before .before .before .before .before .before .before .before .before .before .before .before .before .before .before .before .pass .result .session) (c .before .before .before .before .before .before .before .before .before .before .before .before .before .before .before .before .before .before .before .before .before .before .before .loop .flash) (c .before .before .before .before .before .before .before .before .before .before .before .before .before .before .before .before .before .before .before .before .before .before .before .loop .sram) (c .before .before .before .before .before .before .before .before .before .before .before .before .before .before .before .before .before .before .before .before .before .before .before .loop .usd) in let k = (c .before .before .before .before .before .before .before .before .tell-byte .kept) in (omega (arith, f .0), f .3, omega (arith, (c .before .before .before .before .before .before .before .before .tell-byte .ensures .1), (c .before .before .before .before .before .before .before .before .before .before .before .before .before .before .before .before .before .before .before .before .before .before .before .loop .inv .2)), one-told (tell (Byte deskRoom (c .before .before .before .before .before .before .before .before .before .before .before .before .before .byte-in .result)) p) (tells (map (Byte deskRoom) (fields (drop ((c .before .before .before .before .before .before .before .before .before .before .before .before .before .before .before .before .before .before .before .before .before .before .before .loop .i) + (c .before .before .before .before .before .before .before .before .before .before .before .before .before .before .before .before .before .before .before .pass .result .characters) + 3) (c .before .before .before .before .before .before .before .before .before .before .before .before .before .before .before .before .before .before .before .before .before .before .before .before .before .before .before .before .before .args .rest .now))))) (rw (tells-fields (c .before .before .before .before .before .before .before .before .before .before .before .before .before .before .before .before .before .before .before .before .before .before .before .before .before .before .before .before .before .args .rest .now) ((c .before .before .before .before .before .before .before .before .before .before .before .before .before .before .before .before .before .before .before .before .before .before .before .loop .i) + (c .before .before .before .before .before .before .before .before .before .before .before .before .before .before .before .before .before .before .before .pass .result .characters)) p (f .0), ← (c .before .before .before .before .before .before .before .before .before .before .before .before .before .byte-in .ensures)) at (q .told)) (c .before .before .before .before .before .before .before .before .tell-byte .ensures .0), k .1 .1 .0 ∙ (c .before .before .before .before .before .before .before .before .before .before .before .before .before .before .before .before .before .before .before .before .before .before .before .loop .inv .4), k .1 .1 .1 .0 ∙ (c .before .before .before .before .before .before .before .before .before .before .before .before .before .before .before .before .before .before .before .before .before .before .before .loop .inv .5), k .1 .1 .1 .1 .0 ∙ (c .before .before .before .before .before .before .before .before .before .before .before .before .before .before .before .before .before .before .before .before .before .before .before .loop .inv .6), k .1 .1 .1 .1 .1 .0 ∙ (c .before .before .before .before .before .before .before .before .before .before .before .before .before .before .before .before .before .before .before .before .before .before .before .loop .inv .7)))
     (λ c. (c .before .loop .inv .4))
     (λ c. (c .before .loop .inv .5))
     (λ c. (c .before .loop .inv .6))
