@@ -60,7 +60,7 @@ fn pass(session: Session, rest: &[u8], flash: usize, sram: usize, usd: usize) ->
     requires { ⌜ T (areFields (now rest)) ⌝ }
     ensures { λ r. ⌜ Passes session flash sram usd (now (rest .entry)) (r .session) (r .characters) ⌝ }
 {
-    let n = session.silent(rest.len() / FIELD, flash, sram, usd);
+    let n = gathering::silent_bytes(session, rest.len() / FIELD, flash, sram, usd);
     if n == 0 {
         return Passed {
             session: session,
@@ -128,6 +128,13 @@ fn tell_frame(
 {
     let mut input = [0u8; frames::BYTES];
     written::frame(rest, &mut input);
+    let gathers = gathering::silent_frame(session, &input, flash.len(), sram.len(), usd.len());
+    if gathers {
+        return Answered {
+            session: session.gather(frames::carried(&input)),
+            end: at,
+        };
+    }
     let mut buffer = [0u8; ROOM];
     let taken = session.take_frame(&input, flash, sram, usd, &mut buffer);
     let next = taken.session;

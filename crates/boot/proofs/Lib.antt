@@ -4,4 +4,3 @@ pub mod Sound
 pub mod Good
 pub mod Accept
 pub mod Causes
-pub mod Silent

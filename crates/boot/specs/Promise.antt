@@ -1,18 +1,16 @@
 -- What each call promises: every part of what it gives back and every byte lent.
-use Prim.Native.Nat.{ℕ, _+_, _<_}
+use Prim.Native.Nat.{ℕ}
 use mathlib.Core.Path.{_≡_}
 use mathlib.Core.List.{List, _++_}
-use lib.Dec.{T}
 use lib.ListN.{length, drop}
-use Rattle.memories.specs.Memories.{Memories, memories, lengthsRight}
+use Rattle.memories.specs.Memories.{Memories, memories}
 use Rattle.memories.specs.Effects.{effect}
 use Rattle.command.specs.declared.Decision.{Decision}
 use Rattle.boot.specs.Session as S
-use Rattle.boot.specs.Session.{on, sound, fresh}
+use Rattle.boot.specs.Session.{fresh}
 use Rattle.boot.specs.Causes.{causeNo}
 use Rattle.boot.specs.Calls.{State, Input, Byte, Framed, Outcome, decide, perform, call}
 use Rattle.boot.specs.declared.Carrier.{Carrier}
-use Rattle.boot.specs.declared.Carrier.the-variants.{Uart}
 use Rattle.boot.specs.declared.Cause.{Cause}
 use Rattle.boot.specs.declared.Cause.the-variants.{Accepted}
 use Rattle.boot.specs.declared.Session.{Session}
@@ -88,13 +86,6 @@ pub record Leaves (o : Outcome) (lent : List ℕ) (l : Left) : Type 0 where
 pub record Performed (c : Carrier) (s t : Session) (d : Decision) (n : ℕ) (m : Memories) (r : Taken) (after : Memories) : Type 0 where
   pub result : r ≡ record { number = causeNo Accepted; length = n; session = S.after c t (d .next) s }
   pub memories : after ≡ effect (d .change) (t .staged) m
-
--- so many UART bytes are only gathered: memories of these lengths have theirs, and a sound session on UART expects more
-pub record Gathers (s : Session) (flash sram usd n : ℕ) : Type 0 where
-  pub lengths : T (lengthsRight flash sram usd)
-  pub here : T (on Uart s)
-  pub firm : T (sound s)
-  pub short : s .taken + n < s .expected
 
 -- the promise of the two taking calls
 abbrev pub Took : Given → Left → Type 0

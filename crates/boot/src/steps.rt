@@ -92,14 +92,14 @@ impl Session {
     }
 
     // Whether the session is on a carrier.
-    pub(crate) fn on(self, carrier: Carrier) -> bool
+    pub fn on(self, carrier: Carrier) -> bool
         ensures { λ r. ⌜ r ≡ on carrier self ⌝ }
     {
         self.carrier == carrier.number()
     }
 
     // Whether the session is sound.
-    pub(crate) fn sound(self) -> bool
+    pub fn sound(self) -> bool
         ensures { λ r. ⌜ r ≡ sound self ⌝ }
     {
         (self.carrier <= crate::RUNNING)

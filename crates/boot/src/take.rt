@@ -1,6 +1,6 @@
 ghost use mathlib.Core.Path.{_≡_};
 ghost use mathlib.Core.Bool.{true};
-ghost use Prim.Native.Nat.{_≤_, _<_};
+ghost use Prim.Native.Nat.{_≤_};
 ghost use lib.Dec.{T, leb};
 ghost use lib.ListN.{length};
 ghost use Rattle.memories.specs.Memories.{memories, lengthsRight, proper};
@@ -11,7 +11,7 @@ ghost use Rattle.frames.specs.Frames.{classic, isFrame};
 ghost use Rattle.boot.specs.Session.{sound};
 ghost use Rattle.boot.specs.Causes.{accepts, causeOf};
 ghost use Rattle.boot.specs.Calls.{bears};
-ghost use Rattle.boot.specs.Promise.{left, givenByte, givenFrame, performed, refusedTaken, Performed, Leaves, Gathers, Took};
+ghost use Rattle.boot.specs.Promise.{left, givenByte, givenFrame, performed, refusedTaken, Performed, Leaves, Took};
 use crate::Carrier;
 use crate::Cause;
 use crate::Session;
@@ -20,7 +20,7 @@ use board::Board;
 use command::Decision;
 
 // Whether flash, SRAM and USD have their lengths.
-fn lengths_right(flash: usize, sram: usize, usd: usize) -> bool
+pub fn lengths_right(flash: usize, sram: usize, usd: usize) -> bool
     ensures { λ r. ⌜ r ≡ lengthsRight flash sram usd ⌝ }
 {
     (flash == Board::FLASH_BYTES) & (sram == Board::SRAM_BYTES) & (usd == Board::USD_BYTES)
@@ -91,19 +91,6 @@ impl Session {
             can::say::ROOM <= room,
             frames::is_frame(frame),
         )
-    }
-
-    // How many of n bytes the session only gathers, given the lengths of the memories: taking them at once is taking them one by one.
-    pub fn silent(self, n: usize, flash: usize, sram: usize, usd: usize) -> usize
-        ensures { λ r. ⌜ (r ≤ n) × ((0 < r) → Gathers self flash sram usd r) ⌝ }
-    {
-        let hears = lengths_right(flash, sram, usd) & self.on(Carrier::Uart);
-        let gathers = hears & self.sound();
-        if gathers {
-            words::least(n, self.expected - self.taken - 1)
-        } else {
-            0
-        }
     }
 
     // A refused call gives no reply, and the session stays.

@@ -1,0 +1,155 @@
+-- Bytes that a session connected to UART only gathers: each is accepted, says nothing and changes no memory, so that many may be taken at once.
+use mathlib.Core.Path.{_≡_, refl, sym, ap, ap₂, subst, _∙_}
+use mathlib.Core.Bool.{Bool, true, false, not, _&&_}
+use mathlib.Core.List.{List, [], _∷_}
+use Prim.Native.Nat.{ℕ, _+_, _-_, _≤_, _<_}
+use native.Mathlib.Omega.{arith}
+use lib.Dec.{T, eqb, leb, ltb, eqb→eq}
+use lib.ListN.{length}
+use borrow.Author.Tests.{le-leb, lt-ltb, eq-eqb, ne-eqb, not-false}
+use lib.Seq.{take-all}
+use Rattle.words.specs.Over.{put}
+use Rattle.words.proofs.Over.{put-then}
+use Rattle.words.proofs.Tests.{both-left, both-right, holds-true}
+use Rattle.memories.specs.Memories.{proper}
+use Rattle.memories.specs.Effects.{effect}
+use Rattle.command.specs.Decision.{if_gives_else_, answer}
+use Rattle.command.specs.Progress.{Progress}
+use Rattle.command.specs.Says.{says}
+use Rattle.command.specs.declared.Next.the-variants.{Gather}
+use Rattle.command.specs.declared.Reply.the-variants.{Silence}
+use Rattle.frames.specs.Frames.{Frame, classic, frameIn, carried, isFrame}
+use Rattle.frames.proofs.Frames.{carried-length}
+use Rattle.can.specs.Steps as C
+use Rattle.can.specs.Conversation as CC
+use Rattle.can.specs.declared.Step as CS
+use Rattle.can.specs.declared.Step.the-variants as CSV
+use Rattle.uart.specs.Conversation.{uartRoom, heard}
+use Rattle.boot.specs.Session.{on, stepSound, sound, progress, gathered, after}
+use Rattle.boot.specs.Causes.{causeOf}
+use Rattle.boot.specs.Decide.{connected, decideByte, decideFrame}
+use Rattle.boot.specs.Calls.{State, Byte, Framed, Outcome, causeFor, decide, sent, perform, call}
+use Rattle.gathering.specs.Gathering.{GathersFrame}
+use Rattle.boot.specs.declared.Carrier.the-variants.{Uart, Can}
+use Rattle.boot.specs.declared.Cause.the-variants.{Accepted}
+use Rattle.boot.specs.declared.Session.{Session}
+use Rattle.boot.proofs.Sound.{can-expects}
+
+-- what a call leaves that only gathers bytes
+abbrev pub onlyGathered : List ℕ → State → Outcome
+onlyGathered new p = record {
+  cause = Accepted;
+  reply = [];
+  state = record { session = gathered new (p .session); memories = p .memories };
+}
+
+pub gathers-byte : (room b : ℕ) (p : State) → T (proper (p .memories)) → uartRoom ≤ room → T (on Uart (p .session)) → T (sound (p .session))
+    → p .session .taken + 1 < p .session .expected → call (Byte room b) p ≡ onlyGathered (b ∷ []) p
+unfolding call causeFor causeOf decide decideByte connected heard if_gives_else_ perform sent says after effect
+gathers-byte room b p m r u s h =
+    let c : p .session .carrier ≡ 1 = eqb→eq (p .session .carrier) 1 u in
+    rw (
+      holds-true (proper (p .memories)) m,
+      le-leb uartRoom room r,
+      holds-true (sound (p .session)) s,
+      ne-eqb (p .session .carrier) 3 (λ e. omega arith),
+      holds-true (on Uart (p .session)) u,
+      lt-ltb (p .session .taken + 1) (p .session .expected) h,
+    ) refl
+
+-- ---- bytes gathered at once are bytes gathered one by one
+
+-- the session with bytes taken that all fit
+abbrev withTaken : List ℕ → Session → Session
+withTaken new s = record {
+  carrier = s .carrier;
+  step = s .step;
+  taken = s .taken + length new;
+  expected = s .expected;
+  address = s .address;
+  speed = s .speed;
+  staged = put (s .staged) (s .taken) new;
+}
+
+all-fit : (new : List ℕ) (s : Session) → s .taken + length new ≤ s .expected → gathered new s ≡ withTaken new s
+all-fit new s h =
+    let e = take-all (s .expected - s .taken) new (omega arith) in
+    ap (λ (l : List ℕ). record {
+      carrier = s .carrier;
+      step = s .step;
+      taken = s .taken + length l;
+      expected = s .expected;
+      address = s .address;
+      speed = s .speed;
+      staged = put (s .staged) (s .taken) l;
+    }) e
+
+pub gathered-more : (b : ℕ) (bs : List ℕ) (s : Session) → s .taken + 1 + length bs ≤ s .expected
+    → gathered bs (gathered (b ∷ []) s) ≡ gathered (b ∷ bs) s
+gathered-more b bs s h =
+    ap (λ (t : Session). gathered bs t) (all-fit (b ∷ []) s (omega arith))
+    ∙ all-fit bs (withTaken (b ∷ []) s) h
+    ∙ ap₂ (λ (n : ℕ) (l : List ℕ). record {
+      carrier = s .carrier;
+      step = s .step;
+      taken = n;
+      expected = s .expected;
+      address = s .address;
+      speed = s .speed;
+      staged = l;
+    }) (omega arith) (put-then (s .staged) (s .taken) (s .taken + 1) (b ∷ []) bs (omega arith))
+    ∙ sym (all-fit (b ∷ bs) s (omega arith))
+
+-- and a session that expects more stays sound
+pub gathered-sound : (b : ℕ) (s : Session) → T (sound s) → s .taken + 1 < s .expected → T (sound (gathered (b ∷ []) s))
+unfolding sound
+gathered-sound b s t h =
+    let a = leb (s .carrier) 3 && leb (s .speed) 3 && stepSound (s .carrier) (s .step) (s .expected) in
+    let l = take-all (s .expected - s .taken) (b ∷ []) (omega arith) in
+    rw (holds-true a (both-left a (ltb (s .taken) (s .expected)) t), l, lt-ltb (s .taken + 1) (s .expected) h) tt
+
+-- three tests that hold together
+pub all-three : (a b d : Bool) → a && b && d ≡ true → T a × T b × T d
+all-three true true true e = (tt, tt, tt)
+all-three true true false e = absurd (subst T (sym e) tt)
+all-three true false d e = absurd (subst T (sym e) tt)
+all-three false b d e = absurd (subst T (sym e) tt)
+
+-- what a frame that may be gathered has passed
+pub ready : (a b d e : Bool) → not (a && b && d && e) ≡ false → T a × T b × T d × T e
+ready a b d e h =
+    let t : T (a && b && d && e) = subst T (sym (not-false (a && b && d && e) h)) tt in
+    let l = all-three a b d (holds-true (a && b && d) (both-left (a && b && d) e t)) in
+    (l .0, l .1, l .2, both-right (a && b && d) e t)
+
+-- ---- a frame that a session connected to CAN only gathers
+
+-- it bears the running ID, has bytes, and the step expects more
+frame-heard : (k : CS.Step) (p : Progress) (usd : List ℕ) (f : Frame) → T (C.expects k (p .expected)) → CC.bears k (f .id) ≡ f .id → 0 < f .dlc
+    → length (carried f) ≡ f .dlc → p .taken + f .dlc < p .expected → CC.heard k p usd f ≡ answer Silence Gather
+unfolding CC.heard CC.decided CC.gathering if_gives_else_
+frame-heard CSV.Idle p usd f t b h l s = absurd (omega (arith, eqb→eq (p .expected) 1 t))
+frame-heard CSV.WriteData p usd f t b h l s =
+    rw (eq-eqb (f .id) 0x31 (sym b), ne-eqb (f .dlc) 0 (λ e. omega arith), l, lt-ltb (p .taken + f .dlc) (p .expected) s) refl
+frame-heard CSV.EraseList p usd f t b h l s =
+    rw (eq-eqb (f .id) 0x44 (sym b), ne-eqb (f .dlc) 0 (λ e. omega arith), l, lt-ltb (p .taken + f .dlc) (p .expected) s) refl
+frame-heard CSV.ProtectList p usd f t b h l s =
+    rw (eq-eqb (f .id) 0x63 (sym b), ne-eqb (f .dlc) 0 (λ e. omega arith), l, lt-ltb (p .taken + f .dlc) (p .expected) s) refl
+
+pub gathers-frame : (room : ℕ) (l : List ℕ) (p : State) → CC.canRoom ≤ room
+    → GathersFrame (p .session) (length (p .memories .flash)) (length (p .memories .sram)) (length (p .memories .usd)) l
+    → call (Framed room l) p ≡ onlyGathered (carried (frameIn l)) p
+unfolding call causeFor causeOf decide decideFrame connected if_gives_else_ perform sent says after effect
+gathers-frame room l p r g =
+    let s = p .session in
+    let c : s .carrier ≡ 2 = eqb→eq (s .carrier) 2 (g .here) in
+    rw (
+      holds-true (proper (p .memories)) (g .lengths),
+      le-leb CC.canRoom room r,
+      holds-true (isFrame classic l) (g .formed),
+      holds-true (sound s) (g .firm),
+      ne-eqb (s .carrier) 3 (λ e. omega arith),
+      holds-true (on Can s) (g .here),
+      frame-heard (C.stepOf (s .step)) (progress s) (p .memories .usd) (frameIn l) (can-expects s (g .firm) (g .here)) (g .own) (g .some)
+          (carried-length l (g .formed)) (g .short),
+    ) refl
