@@ -1,0 +1,36 @@
+-- Bytes one behind the other write a number together, and a number is what its bytes write.
+use mathlib.Core.Path.{_≡_, sym, ap, _∙_}
+use mathlib.Core.List.{List, [], _∷_, _++_}
+use Prim.Native.Nat.{ℕ, _+_, _*_, _^_, _%_, _≤_}
+use native.Mathlib.Nat.{add-zero, add-mul, add-assoc, mul-assoc}
+use native.Mathlib.Omega.{arith}
+use lib.Pow.{pow-add}
+use lib.ListN.{length, getD, take, drop, length-append, length-drop}
+use lib.Seq.{take-add, drop-drop, getD-drop}
+use Rattle.words.specs.Bytes.{number, byteOf}
+use Rattle.words.specs.Lists.{part}
+use Rattle.words.proofs.Slices.{take-four, length-part}
+
+-- bytes behind others are the low ones
+pub number-append : (a b : List ℕ) → number (a ++ b) ≡ number a * 256 ^ length b + number b
+number-append [] b = omega arith
+number-append (x ∷ a) b =
+    rw (length-append a b, pow-add 256 (length a) (length b), number-append a b, add-mul (x * 256 ^ length a) (number a) (256 ^ length b))
+    (rw (mul-assoc x (256 ^ length a) (256 ^ length b), add-assoc (x * (256 ^ length a * 256 ^ length b)) (number a * 256 ^ length b) (number b)))
+
+-- the number of eight bytes is that of the first four and of the other four
+pub eight-at : (l : List ℕ) (at : ℕ) → at + 8 ≤ length l → number (part at 4 l) * 4294967296 + number (part (at + 4) 4 l) ≡ number (part at 8 l)
+eight-at l at h =
+    let halves : part at 8 l ≡ part at 4 l ++ part (at + 4) 4 l =
+    take-add 4 4 (drop at l) ∙ ap (λ (m : List ℕ). part at 4 l ++ take 4 m) (drop-drop 4 at l) in
+    let four : length (part (at + 4) 4 l) ≡ 4 = length-part l (at + 4) 4 (omega arith) in
+    sym (ap number halves ∙ number-append (part at 4 l) (part (at + 4) 4 l) ∙ ap (λ (k : ℕ). number (part at 4 l) * 256 ^ k + number (part (at + 4) 4 l)) four)
+
+-- four bytes from a place on
+pub four-at : (l : List ℕ) (at : ℕ) → at + 4 ≤ length l → part at 4 l ≡ getD l at 0 ∷ getD l (at + 1) 0 ∷ getD l (at + 2) 0 ∷ getD l (at + 3) 0 ∷ []
+four-at l at h =
+    take-four (drop at l) (simp length-drop (omega arith)) ∙ simp (getD-drop, add-zero)
+
+-- the low byte of a number
+pub low-byte : (n : ℕ) → byteOf n 0 ≡ n % 256
+low-byte n = omega arith

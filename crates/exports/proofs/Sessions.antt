@@ -1,0 +1,40 @@
+-- A session written byte by byte is the bytes of the session, and a sound session is held by a slice of its length.
+use mathlib.Core.Path.{_≡_, refl, sym, subst}
+use mathlib.Core.Bool.{Bool, true, false}
+use mathlib.Core.List.{List, [], _∷_, _++_}
+use Prim.Native.Nat.{ℕ}
+use native.Mathlib.Omega.{arith}
+use lib.Dec.{T, eqb→eq}
+use lib.ListN.{length, take, set}
+use lib.Seq.{take-all}
+use Rattle.words.specs.Choice.{if_then_else_}
+use Rattle.words.specs.Bytes.{fourBytes}
+use Rattle.words.specs.Over.{put}
+use Rattle.words.proofs.Over.{put-one, put-then, put-all}
+use Rattle.boot.specs.Session.{sound}
+use Rattle.boot.specs.declared.Session.{Session}
+use Rattle.exports.specs.Sessions.{sessionLength, eightBytes, sessionBytes, isSession, heldIn, noSession, sessionIn}
+
+-- a sound session is held by a slice of its length
+pub sound-length : (l : List ℕ) → T (sound (sessionIn l)) → length l ≡ sessionLength
+unfolding sessionIn sound
+sound-length l t = by-test (isSession l) refl t
+  where
+    by-test : (b : Bool) → isSession l ≡ b → T (sound (if b then heldIn l else noSession)) → length l ≡ sessionLength
+    by-test true e t = eqb→eq (length l) 280 (subst T (sym e) tt)
+    by-test false e t = absurd t
+
+-- the stores of a session's parts, one behind the other, make its bytes
+pub all-stored : (l : List ℕ) (s : Session) → length l ≡ sessionLength → length (s .staged) ≡ 257
+    → put (set (put (put (put (set (set l 0 (s .carrier)) 1 (s .step)) 2 (eightBytes (s .taken))) 10 (eightBytes (s .expected))) 18 (fourBytes (s .address))) 22 (s .speed)) 23 (take 257 (s .staged))
+    ≡ sessionBytes s
+unfolding sessionBytes
+all-stored l s h k =
+    rw (take-all 257 (s .staged) (omega arith), ← put-one l 0 (s .carrier), ← put-one (put l 0 (s .carrier ∷ [])) 1 (s .step), put-then l 0 1 (s .carrier ∷ []) (s .step ∷ []) refl)
+    (rw (put-then l 0 2 (s .carrier ∷ s .step ∷ []) (eightBytes (s .taken)) refl)
+    (rw (put-then l 0 10 (s .carrier ∷ s .step ∷ eightBytes (s .taken)) (eightBytes (s .expected)) refl)
+    (rw (put-then l 0 18 ((s .carrier ∷ s .step ∷ []) ++ eightBytes (s .taken) ++ eightBytes (s .expected)) (fourBytes (s .address)) refl)
+    (rw (← put-one (put l 0 ((s .carrier ∷ s .step ∷ []) ++ eightBytes (s .taken) ++ eightBytes (s .expected) ++ fourBytes (s .address))) 22 (s .speed))
+    (rw (put-then l 0 22 ((s .carrier ∷ s .step ∷ []) ++ eightBytes (s .taken) ++ eightBytes (s .expected) ++ fourBytes (s .address)) (s .speed ∷ []) refl)
+    (rw (put-then l 0 23 ((s .carrier ∷ s .step ∷ []) ++ eightBytes (s .taken) ++ eightBytes (s .expected) ++ fourBytes (s .address) ++ (s .speed ∷ [])) (s .staged) refl)
+    (put-all l _ (omega arith))))))))

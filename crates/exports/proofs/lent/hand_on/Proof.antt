@@ -1,0 +1,15 @@
+-- Where the number is that of no cause, the session is written, and else nothing is.
+use borrow.Author.Needs.{needs}
+use mathlib.Core.Path.{refl}
+use borrow.Author.Tests.{eq-eqb, ne-eqb}
+use Rattle.exports.proofs.lent.hand_on.Statement.{statement}
+use Rattle.exports.proofs.lent.hand_on.Tie as tie
+
+pub hand-on-spec : {M : Type 1} → statement M
+hand-on-spec =
+    tie.close
+    (tie.spec
+    (λ c κs. (c .before .before .before .before .pre) (c .before .before .if1 .taken))
+    (λ c. search needs)
+    (λ c. (refl, rw (eq-eqb _ 0 (c .before .before .before .before .before .if1 .taken)) (c .before .before .write .ensures)))
+    (λ c. (refl, rw (ne-eqb _ 0 (c .if1 .left)))))

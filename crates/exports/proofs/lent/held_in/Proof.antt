@@ -1,0 +1,19 @@
+-- Each number is read where it stands.
+use borrow.Author.Needs.{needs}
+use Rattle.exports.specs.Sessions.{heldIn}
+use Rattle.exports.proofs.lent.held_in.Statement.{statement}
+use Rattle.exports.proofs.lent.held_in.Tie as tie
+
+pub held-in-spec : {M : Type 1} → statement M
+unfolding heldIn
+held-in-spec =
+    tie.close
+    (tie.spec
+    (λ c. search needs)
+    (λ c. search needs)
+    (λ c κs. search needs)
+    (λ c κs. search needs)
+    (λ c κs. search needs)
+    (λ c. search needs)
+    (λ c κs. search needs)
+    (λ c. rw (← (c .before .before .before .before .count-at .ensures), ← (c .before .before .before .count-at2 .ensures), ← (c .before .before .address-at .ensures), ← (c .staged-in .ensures))))

@@ -1,0 +1,22 @@
+-- The bytes are the number's eight, high first.
+use borrow.Author.Needs.{needs}
+use Rattle.exports.proofs.Numbers.{low-byte}
+use Rattle.exports.proofs.lent.put_count.Statement.{statement}
+use Rattle.exports.proofs.lent.put_count.Tie as tie
+
+pub put-count-spec : {M : Type 1} → statement M
+put-count-spec =
+    tie.close
+    (tie.spec
+    (λ c. search needs)
+    (λ c. search needs)
+    (λ c. search needs)
+    (λ c. search needs)
+    (λ c. search needs)
+    (λ c. search needs)
+    (λ c. search needs)
+    (λ c. search needs)
+    (λ c. search needs)
+    (λ c κs. search needs)
+    (λ c. search needs)
+    (λ c. rw (low-byte ((c .before .before .before .before .before .before .args .count))) (c .before .before .copy .ensures)))

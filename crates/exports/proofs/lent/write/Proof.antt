@@ -1,0 +1,21 @@
+-- The parts are stored one behind the other, from the first byte to the last.
+use borrow.Author.Needs.{needs}
+use native.Mathlib.Omega.{arith}
+use lib.ListN.{length-set}
+use Rattle.exports.proofs.Sessions.{all-stored}
+use Rattle.exports.proofs.lent.write.Statement.{statement}
+use Rattle.exports.proofs.lent.write.Tie as tie
+
+pub write-spec : {M : Type 1} → statement M
+write-spec =
+    tie.close
+    (tie.spec
+    (λ c. search needs)
+    (λ c. search needs)
+    (λ c κs. simp length-set (omega arith))
+    (λ c κs. omega (arith, simp length-set at (c .before .before .before .put-count .kept .0)))
+    (λ c κs. omega (arith, (c .before .before .before .put-count2 .kept .0), simp length-set at (c .before .before .before .before .before .before .before .put-count .kept .0)))
+    (λ c. omega (arith, (c .before .before .put-address .kept .0), (c .before .before .before .before .before .before .put-count2 .kept .0), simp length-set at (c .before .before .before .before .before .before .before .before .before .before .put-count .kept .0)))
+    (λ c κs. (simp length-set (omega (arith, (c .before .before .before .before .before .before .put-address .kept .0), (c .before .before .before .before .before .before .before .before .before .before .put-count2 .kept .0), simp length-set at (c .before .before .before .before .before .before .before .before .before .before .before .before .before .before .put-count .kept .0))), search needs))
+    (λ c. omega (arith, simp length-set at (c .before .before .copy .kept .0), (c .before .before .before .before .before .before .before .before .before .put-address .kept .0), (c .before .before .before .before .before .before .before .before .before .before .before .before .before .put-count2 .kept .0), simp length-set at (c .before .before .before .before .before .before .before .before .before .before .before .before .before .before .before .before .before .put-count .kept .0)))
+    (λ c. rw ((c .before .before .copy .ensures), (c .before .before .before .before .before .before .before .before .before .put-address .ensures), (c .before .before .before .before .before .before .before .before .before .before .before .before .before .put-count2 .ensures), (c .before .before .before .before .before .before .before .before .before .before .before .before .before .before .before .before .before .put-count .ensures)) (all-stored (c .before .before .before .before .before .before .before .before .before .before .before .before .before .before .before .before .before .before .before .before .args .lent .now) (c .before .before .before .before .before .before .before .before .before .before .before .before .before .before .before .before .before .before .before .before .args .t1) (c .before .before .before .before .before .before .before .before .before .before .before .before .before .before .before .before .before .before .before .before .pre) (search needs))))

@@ -1,0 +1,17 @@
+-- A slice of a session's length gets the fresh session's bytes, and any other is refused.
+use borrow.Author.Needs.{needs}
+use mathlib.Core.Path.{ap, _∙_}
+use borrow.Author.Tests.{eq-eqb, ne-eqb}
+use Rattle.exports.specs.Sessions.{sessionBytes}
+use Rattle.exports.proofs.oilthicket_power_on.Statement.{statement}
+use Rattle.exports.proofs.oilthicket_power_on.Tie as tie
+
+pub oilthicket-power-on-spec : {M : Type 1} → statement M
+oilthicket-power-on-spec =
+    tie.close
+    (tie.spec
+    (λ c. record { number = rw (ne-eqb _ 280 (c .if1 .taken)); session = rw (ne-eqb _ 280 (c .if1 .taken)) })
+    (λ c κs. search needs)
+    (λ c κs. search needs)
+    (λ c. search needs)
+    (λ c. record { number = rw (eq-eqb _ 280 (c .before .before .before .before .before .if1 .left)); session = rw (eq-eqb _ 280 (c .before .before .before .before .before .if1 .left)) ((c .before .before .write .ensures) ∙ ap sessionBytes (c .before .before .before .before .power-on .ensures .session)) }))

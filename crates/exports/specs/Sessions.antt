@@ -1,0 +1,86 @@
+-- A session as the bytes that it is lent in: its numbers one behind the other, each high byte first, and the staged bytes.
+use Prim.Native.Nat.{ℕ}
+use mathlib.Core.Bool.{Bool}
+use mathlib.Core.List.{List, [], _∷_, _++_}
+use lib.Dec.{eqb}
+use lib.ListN.{length, getD}
+use Rattle.words.specs.Choice.{if_then_else_}
+use Rattle.words.specs.Bytes.{number, byteOf, fourBytes}
+use Rattle.words.specs.Lists.{part}
+use Rattle.board.specs.Quantities.{addressBytes}
+use Rattle.memories.specs.Effects.{stagedBytes}
+use Rattle.boot.specs.Session.{noBytes}
+use Rattle.boot.specs.declared.Session.{Session}
+
+-- how many bytes a session is lent in
+abbrev pub sessionLength : ℕ
+sessionLength = 280
+
+-- how many bytes taken and expected have
+abbrev pub countBytes : ℕ
+countBytes = 8
+
+-- where each number stands, and where the staged bytes begin
+abbrev pub carrierPlace : ℕ
+carrierPlace = 0
+
+abbrev pub stepPlace : ℕ
+stepPlace = 1
+
+abbrev pub takenPlace : ℕ
+takenPlace = 2
+
+abbrev pub expectedPlace : ℕ
+expectedPlace = 10
+
+abbrev pub addressPlace : ℕ
+addressPlace = 18
+
+abbrev pub speedPlace : ℕ
+speedPlace = 22
+
+abbrev pub stagedPlace : ℕ
+stagedPlace = 23
+
+-- a number's eight bytes, high first
+abbrev pub eightBytes : ℕ → List ℕ
+eightBytes n =
+    byteOf n 7 ∷ byteOf n 6 ∷ byteOf n 5 ∷ byteOf n 4 ∷ byteOf n 3 ∷ byteOf n 2 ∷ byteOf n 1 ∷ byteOf n 0 ∷ []
+
+-- the bytes of a session
+unfoldable pub sessionBytes : Session → List ℕ
+sessionBytes s =
+    (s .carrier ∷ s .step ∷ []) ++ eightBytes (s .taken) ++ eightBytes (s .expected) ++ fourBytes (s .address)
+    ++ (s .speed ∷ []) ++ s .staged
+
+-- a slice has the length of a session
+abbrev pub isSession : List ℕ → Bool
+isSession l = eqb (length l) sessionLength
+
+-- the session whose bytes these are
+unfoldable pub heldIn : List ℕ → Session
+heldIn l = record {
+  carrier = getD l carrierPlace 0;
+  step = getD l stepPlace 0;
+  taken = number (part takenPlace countBytes l);
+  expected = number (part expectedPlace countBytes l);
+  address = number (part addressPlace addressBytes l);
+  speed = getD l speedPlace 0;
+  staged = part stagedPlace stagedBytes l;
+}
+
+-- no session: its carrier exceeds 3, so it is unsound
+abbrev pub noSession : Session
+noSession = record {
+  carrier = 4;
+  step = 0;
+  taken = 0;
+  expected = 0;
+  address = 0;
+  speed = 0;
+  staged = noBytes;
+}
+
+-- the session that a slice holds; a slice of another length holds none
+unfoldable pub sessionIn : List ℕ → Session
+sessionIn l = if isSession l then heldIn l else noSession

@@ -1,0 +1,58 @@
+// The calls of the board for programs in Rust and C, over slices of bytes that the caller lends.
+pub mod lent;
+
+ghost use Rattle.boot.specs.Promise.{givenByte, givenFrame};
+ghost use Rattle.exports.specs.Sessions.{sessionIn};
+ghost use Rattle.exports.specs.Promise.{PowersOn, Takes};
+use boot::Session;
+
+// The number of a call that is refused for its session.
+const UNSOUND_SESSION: u8 = 4;
+
+// Powers the board on: the session becomes a fresh one.
+#[no_mangle]
+pub extern "C" fn oilthicket_power_on(session: &mut [u8]) -> u8
+    ensures { λ r. ⌜ PowersOn (now (session .entry)) r (now (session .exit)) ⌝ }
+{
+    if session.len() != lent::LENGTH {
+        return UNSOUND_SESSION;
+    }
+    lent::write(Session::power_on(), session);
+    lent::ACCEPTED
+}
+
+// Takes one UART byte, with the session, the memories and the reply buffer that are lent.
+#[no_mangle]
+pub extern "C" fn oilthicket_take_byte(
+    session: &mut [u8],
+    byte: u8,
+    flash: &mut [u8],
+    sram: &mut [u8],
+    usd: &mut [u8],
+    buffer: &mut [u8],
+    length: &mut usize,
+) -> u8
+    ensures { λ r. ⌜ Takes (givenByte (sessionIn (now (session .entry))) byte (now (flash .entry)) (now (sram .entry)) (now (usd .entry)) (now (buffer .entry))) (now (session .entry)) r (now (length .exit)) (now (session .exit)) (now (flash .exit)) (now (sram .exit)) (now (usd .exit)) (now (buffer .exit)) ⌝ }
+{
+    let taken = lent::read(session).take_byte(byte, flash, sram, usd, buffer);
+    *length = taken.length;
+    lent::hand_on(taken, session)
+}
+
+// Takes one CAN frame, with the session, the memories and the reply buffer that are lent.
+#[no_mangle]
+pub extern "C" fn oilthicket_take_frame(
+    session: &mut [u8],
+    frame: &[u8],
+    flash: &mut [u8],
+    sram: &mut [u8],
+    usd: &mut [u8],
+    buffer: &mut [u8],
+    length: &mut usize,
+) -> u8
+    ensures { λ r. ⌜ Takes (givenFrame (sessionIn (now (session .entry))) (now (frame .entry)) (now (flash .entry)) (now (sram .entry)) (now (usd .entry)) (now (buffer .entry))) (now (session .entry)) r (now (length .exit)) (now (session .exit)) (now (flash .exit)) (now (sram .exit)) (now (usd .exit)) (now (buffer .exit)) ⌝ }
+{
+    let taken = lent::read(session).take_frame(frame, flash, sram, usd, buffer);
+    *length = taken.length;
+    lent::hand_on(taken, session)
+}
