@@ -1,9 +1,10 @@
 -- Bytes one behind the other write a number together, and a number is what its bytes write.
-use mathlib.Core.Path.{_≡_, sym, ap, _∙_}
+use mathlib.Core.Path.{_≡_, refl, sym, ap, _∙_}
 use mathlib.Core.List.{List, [], _∷_, _++_}
-use Prim.Native.Nat.{ℕ, _+_, _*_, _^_, _%_, _≤_}
-use native.Mathlib.Nat.{add-zero, add-mul, add-assoc, mul-assoc}
+use Prim.Native.Nat.{ℕ, zero, suc, _+_, _*_, _^_, _%_, _≤_, _<_}
+use native.Mathlib.Nat.{add-zero, add-mul, add-assoc, mul-assoc, mod-eq-of-lt, one-le-pow, pow-succ'}
 use native.Mathlib.Omega.{arith}
+use lib.Arith.{mod-mul}
 use lib.Pow.{pow-add}
 use lib.ListN.{length, getD, take, drop, length-append, length-drop}
 use lib.Seq.{take-add, drop-drop, getD-drop}
@@ -34,3 +35,21 @@ four-at l at h =
 -- the low byte of a number
 pub low-byte : (n : ℕ) → byteOf n 0 ≡ n % 256
 low-byte n = omega arith
+
+-- so many low bytes of a number, high first
+abbrev lowBytes : ℕ → ℕ → List ℕ
+lowBytes zero n = []
+lowBytes (suc k) n = byteOf n k ∷ lowBytes k n
+
+length-low : (k n : ℕ) → length (lowBytes k n) ≡ k
+length-low zero n = refl
+length-low (suc k) n = ap suc (length-low k n)
+
+number-low : (k n : ℕ) → number (lowBytes k n) ≡ n % 256 ^ k
+number-low zero n = omega arith
+number-low (suc k) n =
+    rw (length-low k n, number-low k n, pow-succ' 256 k) (sym (mod-mul n {m = 256} {c = 256 ^ k} (omega arith) (one-le-pow k 256 (omega arith))))
+
+-- the bytes of a number that fits write it
+pub number-bytes : (k n : ℕ) → n < 256 ^ k → number (lowBytes k n) ≡ n
+number-bytes k n h = number-low k n ∙ mod-eq-of-lt h

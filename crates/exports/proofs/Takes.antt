@@ -3,7 +3,7 @@ use mathlib.Core.Path.{_≡_, refl, sym, ap, subst, _∙_}
 use mathlib.Core.Bool.{Bool, true, false}
 use mathlib.Core.List.{List}
 use Prim.Native.Nat.{ℕ}
-use lib.Dec.{T, eqb, leb}
+use lib.Dec.{T, eqb, leb, eqb→eq}
 use lib.ListN.{length}
 use Rattle.words.specs.Choice.{if_then_else_}
 use Rattle.memories.specs.Memories.{proper}
@@ -20,7 +20,7 @@ use Rattle.boot.specs.declared.Session.{Session}
 use Rattle.boot.specs.declared.Taken.{Taken}
 use Rattle.boot.proofs.Causes.{accepted-clear}
 use Rattle.exports.specs.Sessions.{sessionLength, sessionBytes, sessionIn}
-use Rattle.exports.specs.Promise.{Takes}
+use Rattle.exports.specs.Promise.{HandsOn, Takes}
 use Rattle.exports.proofs.Sessions.{sound-length}
 
 -- a call is accepted exactly where its number is that of no cause
@@ -48,6 +48,11 @@ outcome-cause g = by-test (accepts (causeFor (g .input) (g .state))) refl
     by-test true e = refl
     by-test false e = e
 
+-- a refused call leaves the session
+refused-session : (g : Given) → accepts (causeFor (g .input) (g .state)) ≡ false → outcome g .state .session ≡ g .state .session
+unfolding outcome call
+refused-session g e = rw e
+
 -- an accepted call has a sound session
 accepted-sound : (i : Input) (p : State) → T (takes i) → accepts (causeFor i p) ≡ true → T (sound (p .session))
 unfolding causeFor
@@ -67,12 +72,18 @@ module _ (g : Given) (lent : List ℕ) (held : g .state .session ≡ sessionIn l
       (sym (outcome-cause g) ∙ accepts-number (outcome g .cause) ∙ ap (λ (n : ℕ). eqb n 0) (sym (t .number) ∙ z))))
 
   -- with the session handed on, that is what the exported call promises
-  pub handed-on : {after : List ℕ} → after ≡ (if eqb (r .number) 0 then sessionBytes (r .session) else lent)
-      → Takes g lent (r .number) (r .length) after flash sram usd buffer
-  handed-on h = record {
+  pub handed-on : {after : List ℕ} → HandsOn r lent after → Takes g lent (r .number) (r .length) after flash sram usd buffer
+  handed-on {after} h = record {
     took = record { number = t .number; count = t .count; session = refl; flash = t .flash; sram = t .sram; usd = t .usd; buffer = t .buffer };
     session =
-        h ∙ ap (λ (n : ℕ). if eqb n 0 then sessionBytes (r .session) else lent) (t .number)
+        h .session ∙ ap (λ (n : ℕ). if eqb n 0 then sessionBytes (r .session) else lent) (t .number)
         ∙ ap (λ (s : Session). if eqb (causeNo (outcome g .cause)) 0 then sessionBytes s else lent) (t .session)
         ∙ ap (λ (b : Bool). if b then sessionBytes (outcome g .state .session) else lent) (sym (accepts-number (outcome g .cause)));
+    held = by-number (eqb (r .number) 0) refl;
   }
+    where
+      by-number : (b : Bool) → eqb (r .number) 0 ≡ b → sessionIn after ≡ outcome g .state .session
+      by-number true e = h .held (eqb→eq (r .number) 0 (subst T (sym e) tt)) ∙ t .session
+      by-number false e =
+          ap sessionIn (h .session ∙ ap (λ (b : Bool). if b then sessionBytes (r .session) else lent) e) ∙ sym held
+          ∙ sym (refused-session g (sym (outcome-cause g) ∙ accepts-number (outcome g .cause) ∙ ap (λ (n : ℕ). eqb n 0) (sym (t .number)) ∙ e))

@@ -1,5 +1,5 @@
 -- A session as the bytes that it is lent in: its numbers one behind the other, each high byte first, and the staged bytes.
-use Prim.Native.Nat.{ℕ}
+use Prim.Native.Nat.{ℕ, _+_}
 use mathlib.Core.Bool.{Bool}
 use mathlib.Core.List.{List, [], _∷_, _++_}
 use lib.Dec.{eqb}
@@ -9,7 +9,8 @@ use Rattle.words.specs.Bytes.{number, byteOf, fourBytes}
 use Rattle.words.specs.Lists.{part}
 use Rattle.board.specs.Quantities.{addressBytes}
 use Rattle.memories.specs.Effects.{stagedBytes}
-use Rattle.boot.specs.Session.{noBytes}
+use Rattle.boot.specs.Session.{carrierNo, noBytes}
+use Rattle.boot.specs.declared.Carrier.the-variants.{Running}
 use Rattle.boot.specs.declared.Session.{Session}
 
 -- how many bytes a session is lent in
@@ -53,9 +54,9 @@ sessionBytes s =
     (s .carrier ∷ s .step ∷ []) ++ eightBytes (s .taken) ++ eightBytes (s .expected) ++ fourBytes (s .address)
     ++ (s .speed ∷ []) ++ s .staged
 
--- a slice has the length of a session
-abbrev pub isSession : List ℕ → Bool
-isSession l = eqb (length l) sessionLength
+-- a slice holds a session: it has the length of one
+abbrev pub holdsSession : List ℕ → Bool
+holdsSession l = eqb (length l) sessionLength
 
 -- the session whose bytes these are
 unfoldable pub heldIn : List ℕ → Session
@@ -72,7 +73,7 @@ heldIn l = record {
 -- no session: its carrier exceeds 3, so it is unsound
 abbrev pub noSession : Session
 noSession = record {
-  carrier = 4;
+  carrier = carrierNo Running + 1;
   step = 0;
   taken = 0;
   expected = 0;
@@ -83,4 +84,4 @@ noSession = record {
 
 -- the session that a slice holds; a slice of another length holds none
 unfoldable pub sessionIn : List ℕ → Session
-sessionIn l = if isSession l then heldIn l else noSession
+sessionIn l = if holdsSession l then heldIn l else noSession

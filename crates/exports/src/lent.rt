@@ -1,14 +1,13 @@
 ghost use mathlib.Core.Path.{_≡_};
 ghost use Prim.Native.Nat.{_+_, _≤_};
-ghost use lib.Dec.{eqb};
 ghost use lib.ListN.{length};
-ghost use Rattle.words.specs.Choice.{if_then_else_};
 ghost use Rattle.words.specs.Bytes.{number, fourBytes};
 ghost use Rattle.words.specs.Lists.{part};
 ghost use Rattle.words.specs.Over.{put};
 ghost use Rattle.board.specs.Quantities.{addressBytes};
 ghost use Rattle.memories.specs.Effects.{stagedBytes};
 ghost use Rattle.exports.specs.Sessions.{sessionLength, countBytes, stagedPlace, eightBytes, sessionBytes, heldIn, noSession, sessionIn};
+ghost use Rattle.exports.specs.Promise.{HandsOn};
 use boot::Session;
 use boot::Taken;
 
@@ -109,10 +108,10 @@ pub fn read(lent: &[u8]) -> Session
     }
 }
 
-// Puts a number's four bytes from a place on.
+// Puts a number's four bytes from a place on, which write it.
 fn put_address(lent: &mut [u8], at: usize, address: u32)
     requires { ⌜ at + addressBytes ≤ length (now lent) ⌝ }
-    ensures { λ _. ⌜ now (lent .exit) ≡ put (now (lent .entry)) at (fourBytes address) ⌝ }
+    ensures { λ _. ⌜ (now (lent .exit) ≡ put (now (lent .entry)) at (fourBytes address)) × (number (fourBytes address) ≡ address) ⌝ }
 {
     let bytes = [
         (address / 16777216 % 256) as u8,
@@ -123,10 +122,10 @@ fn put_address(lent: &mut [u8], at: usize, address: u32)
     words::copy(lent, at, &bytes, 0, ADDRESS_BYTES);
 }
 
-// Puts a number's eight bytes from a place on.
+// Puts a number's eight bytes from a place on, which write it.
 fn put_count(lent: &mut [u8], at: usize, count: usize)
     requires { ⌜ at + countBytes ≤ length (now lent) ⌝ }
-    ensures { λ _. ⌜ now (lent .exit) ≡ put (now (lent .entry)) at (eightBytes count) ⌝ }
+    ensures { λ _. ⌜ (now (lent .exit) ≡ put (now (lent .entry)) at (eightBytes count)) × (number (eightBytes count) ≡ count) ⌝ }
 {
     let bytes = [
         (count / 72057594037927936 % 256) as u8,
@@ -141,10 +140,10 @@ fn put_count(lent: &mut [u8], at: usize, count: usize)
     words::copy(lent, at, &bytes, 0, COUNT_BYTES);
 }
 
-// Writes the bytes of a session.
+// Writes the bytes of a session, which are read as that session.
 pub fn write(session: Session, lent: &mut [u8])
     requires { ⌜ length (now lent) ≡ sessionLength ⌝ }
-    ensures { λ _. ⌜ now (lent .exit) ≡ sessionBytes session ⌝ }
+    ensures { λ _. ⌜ (now (lent .exit) ≡ sessionBytes session) × (sessionIn (sessionBytes session) ≡ session) ⌝ }
 {
     lent[CARRIER] = session.carrier;
     lent[STEP] = session.step;
@@ -158,7 +157,7 @@ pub fn write(session: Session, lent: &mut [u8])
 // Tells the number of a call, and hands its session on where it was accepted.
 pub fn hand_on(taken: Taken, session: &mut [u8]) -> u8
     requires { ⌜ (taken .number ≡ 0 → length (now session) ≡ sessionLength) ⌝ }
-    ensures { λ r. ⌜ (r ≡ taken .number) × (now (session .exit) ≡ (if eqb (taken .number) 0 then sessionBytes (taken .session) else now (session .entry))) ⌝ }
+    ensures { λ r. ⌜ (r ≡ taken .number) × HandsOn taken (now (session .entry)) (now (session .exit)) ⌝ }
 {
     let number = taken.number;
     if number == ACCEPTED {

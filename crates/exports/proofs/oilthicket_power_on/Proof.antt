@@ -14,4 +14,4 @@ oilthicket-power-on-spec =
     (λ c κs. search needs)
     (λ c κs. search needs)
     (λ c. search needs)
-    (λ c. record { number = rw (eq-eqb _ 280 (c .before .before .before .before .before .if1 .left)); session = rw (eq-eqb _ 280 (c .before .before .before .before .before .if1 .left)) ((c .before .before .write .ensures) ∙ ap sessionBytes (c .before .before .before .before .power-on .ensures .session)) }))
+    (λ c. record { number = rw (eq-eqb _ 280 (c .before .before .before .before .before .if1 .left)); session = rw (eq-eqb _ 280 (c .before .before .before .before .before .if1 .left)) ((c .before .before .write .ensures .0) ∙ ap sessionBytes (c .before .before .before .before .power-on .ensures .session)) }))

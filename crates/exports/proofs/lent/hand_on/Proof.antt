@@ -1,7 +1,8 @@
 -- Where the number is that of no cause, the session is written, and else nothing is.
 use borrow.Author.Needs.{needs}
-use mathlib.Core.Path.{refl}
+use mathlib.Core.Path.{refl, ap, _∙_}
 use borrow.Author.Tests.{eq-eqb, ne-eqb}
+use Rattle.exports.specs.Sessions.{sessionIn}
 use Rattle.exports.proofs.lent.hand_on.Statement.{statement}
 use Rattle.exports.proofs.lent.hand_on.Tie as tie
 
@@ -11,5 +12,5 @@ hand-on-spec =
     (tie.spec
     (λ c κs. (c .before .before .before .before .pre) (c .before .before .if1 .taken))
     (λ c. search needs)
-    (λ c. (refl, rw (eq-eqb _ 0 (c .before .before .before .before .before .if1 .taken)) (c .before .before .write .ensures)))
-    (λ c. (refl, rw (ne-eqb _ 0 (c .if1 .left)))))
+    (λ c. (refl, record { session = rw (eq-eqb _ 0 (c .before .before .before .before .before .if1 .taken)) (c .before .before .write .ensures .0); held = λ e. ap sessionIn (c .before .before .write .ensures .0) ∙ (c .before .before .write .ensures .1) }))
+    (λ c. (refl, record { session = rw (ne-eqb _ 0 (c .if1 .left)); held = λ e. absurd ((c .if1 .left) e) })))

@@ -1,6 +1,7 @@
 -- The bytes are the number's four, high first.
 use borrow.Author.Needs.{needs}
-use Rattle.exports.proofs.Numbers.{low-byte}
+use native.Mathlib.Omega.{arith}
+use Rattle.exports.proofs.Numbers.{low-byte, number-bytes}
 use Rattle.exports.proofs.lent.put_address.Statement.{statement}
 use Rattle.exports.proofs.lent.put_address.Tie as tie
 
@@ -15,4 +16,4 @@ put-address-spec =
     (λ c. search needs)
     (λ c κs. search needs)
     (λ c. search needs)
-    (λ c. rw (low-byte ((c .before .before .before .before .before .before .args .address))) (c .before .before .copy .ensures)))
+    (λ c. (rw (low-byte (c .before .before .before .before .before .before .args .address)) (c .before .before .copy .ensures), number-bytes 4 (c .before .before .before .before .before .before .args .address) (omega arith))))

@@ -1,6 +1,7 @@
 -- The bytes are the number's eight, high first.
 use borrow.Author.Needs.{needs}
-use Rattle.exports.proofs.Numbers.{low-byte}
+use native.Mathlib.Omega.{arith}
+use Rattle.exports.proofs.Numbers.{low-byte, number-bytes}
 use Rattle.exports.proofs.lent.put_count.Statement.{statement}
 use Rattle.exports.proofs.lent.put_count.Tie as tie
 
@@ -19,4 +20,4 @@ put-count-spec =
     (λ c. search needs)
     (λ c κs. search needs)
     (λ c. search needs)
-    (λ c. rw (low-byte ((c .before .before .before .before .before .before .args .count))) (c .before .before .copy .ensures)))
+    (λ c. (rw (low-byte (c .before .before .before .before .before .before .args .count)) (c .before .before .copy .ensures), number-bytes 8 (c .before .before .before .before .before .before .args .count) (omega arith))))

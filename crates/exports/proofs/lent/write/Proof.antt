@@ -2,7 +2,7 @@
 use borrow.Author.Needs.{needs}
 use native.Mathlib.Omega.{arith}
 use lib.ListN.{length-set}
-use Rattle.exports.proofs.Sessions.{all-stored}
+use Rattle.exports.proofs.Sessions.{all-stored, read-back}
 use Rattle.exports.proofs.lent.write.Statement.{statement}
 use Rattle.exports.proofs.lent.write.Tie as tie
 
@@ -16,6 +16,6 @@ write-spec =
     (λ c κs. omega (arith, simp length-set at (c .before .before .before .put-count .kept .0)))
     (λ c κs. omega (arith, (c .before .before .before .put-count2 .kept .0), simp length-set at (c .before .before .before .before .before .before .before .put-count .kept .0)))
     (λ c. omega (arith, (c .before .before .put-address .kept .0), (c .before .before .before .before .before .before .put-count2 .kept .0), simp length-set at (c .before .before .before .before .before .before .before .before .before .before .put-count .kept .0)))
-    (λ c κs. (simp length-set (omega (arith, (c .before .before .before .before .before .before .put-address .kept .0), (c .before .before .before .before .before .before .before .before .before .before .put-count2 .kept .0), simp length-set at (c .before .before .before .before .before .before .before .before .before .before .before .before .before .before .put-count .kept .0))), search needs))
+    (λ c κs. (simp length-set (omega (arith, (c .before .before .before .before .before .before .put-address .kept .0), (c .before .before .before .before .before .before .before .before .before .before .put-count2 .kept .0), simp length-set at (c .before .before .before .before .before .before .before .before .before .before .before .before .before .before .put-count .kept .0))), omega (arith, (c .copy-arg3 .given))))
     (λ c. omega (arith, simp length-set at (c .before .before .copy .kept .0), (c .before .before .before .before .before .before .before .before .before .put-address .kept .0), (c .before .before .before .before .before .before .before .before .before .before .before .before .before .put-count2 .kept .0), simp length-set at (c .before .before .before .before .before .before .before .before .before .before .before .before .before .before .before .before .before .put-count .kept .0)))
-    (λ c. rw ((c .before .before .copy .ensures), (c .before .before .before .before .before .before .before .before .before .put-address .ensures), (c .before .before .before .before .before .before .before .before .before .before .before .before .before .put-count2 .ensures), (c .before .before .before .before .before .before .before .before .before .before .before .before .before .before .before .before .before .put-count .ensures)) (all-stored (c .before .before .before .before .before .before .before .before .before .before .before .before .before .before .before .before .before .before .before .before .args .lent .now) (c .before .before .before .before .before .before .before .before .before .before .before .before .before .before .before .before .before .before .before .before .args .t1) (c .before .before .before .before .before .before .before .before .before .before .before .before .before .before .before .before .before .before .before .before .pre) (search needs))))
+    (λ c. (rw ((c .before .before .copy .ensures), (c .before .before .before .before .before .before .before .before .before .put-address .ensures .0), (c .before .before .before .before .before .before .before .before .before .before .before .before .before .put-count2 .ensures .0), (c .before .before .before .before .before .before .before .before .before .before .before .before .before .before .before .before .before .put-count .ensures .0)) (all-stored (c .before .before .before .before .before .before .before .before .before .before .before .before .before .before .before .before .before .before .before .before .args .lent .now) (c .before .before .before .before .before .before .before .before .before .before .before .before .before .before .before .before .before .before .before .before .args .t1) (c .before .before .before .before .before .before .before .before .before .before .before .before .before .before .before .before .before .before .before .before .pre) (omega (arith, (c .before .before .before .copy-arg3 .given)))), read-back (c .before .before .before .before .before .before .before .before .before .before .before .before .before .before .before .before .before .before .before .before .args .t1) (c .before .before .before .before .before .before .before .before .before .before .before .before .before .before .before .before .before .put-count .ensures .1) (c .before .before .before .before .before .before .before .before .before .before .before .before .before .put-count2 .ensures .1) (c .before .before .before .before .before .before .before .before .before .put-address .ensures .1) (omega (arith, (c .before .before .before .copy-arg3 .given))))))
