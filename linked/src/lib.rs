@@ -1,0 +1,155 @@
+//! The proved board, linked from its static library: the three calls, over slices that the caller
+//! lends, and a session that keeps its bytes.
+//!
+//! The proved functions ask nothing of their caller: any slices of any length may be lent, and the
+//! answer to wrong ones is a number. Nothing checks the declarations below against those functions
+//! but this package's tests.
+
+/// The number of an accepted call; a refused one has its cause's, 1 to 5.
+pub const ACCEPTED: u8 = 0;
+
+/// How many bytes a session has.
+pub const SESSION_BYTES: usize = 280;
+
+/// What a length is before its call, which writes it.
+const UNWRITTEN: usize = usize::MAX;
+
+/// The calls of `libexports.a`. A slice is passed as a pointer and then a length.
+mod exported {
+    extern "C" {
+        pub fn oilthicket_power_on(session: *mut u8, session_length: usize) -> u8;
+
+        pub fn oilthicket_take_byte(
+            session: *mut u8,
+            session_length: usize,
+            byte: u8,
+            flash: *mut u8,
+            flash_length: usize,
+            sram: *mut u8,
+            sram_length: usize,
+            usd: *mut u8,
+            usd_length: usize,
+            buffer: *mut u8,
+            buffer_length: usize,
+            length: *mut usize,
+        ) -> u8;
+
+        pub fn oilthicket_take_frame(
+            session: *mut u8,
+            session_length: usize,
+            frame: *const u8,
+            frame_length: usize,
+            flash: *mut u8,
+            flash_length: usize,
+            sram: *mut u8,
+            sram_length: usize,
+            usd: *mut u8,
+            usd_length: usize,
+            buffer: *mut u8,
+            buffer_length: usize,
+            length: *mut usize,
+        ) -> u8;
+    }
+}
+
+/// What is lent to a taking call besides its session.
+#[derive(Debug)]
+pub struct Lent<'a> {
+    /// The flash.
+    pub flash: &'a mut [u8],
+    /// The SRAM.
+    pub sram: &'a mut [u8],
+    /// The user system data.
+    pub usd: &'a mut [u8],
+    /// The reply buffer.
+    pub buffer: &'a mut [u8],
+}
+
+/// What a taking call gives back.
+#[derive(Clone, Copy, Debug, PartialEq, Eq)]
+pub struct Taken {
+    /// 0 for accepted, else the cause's number.
+    pub number: u8,
+    /// The length of the reply, which stands at the front of the reply buffer.
+    pub length: usize,
+}
+
+/// Powers the board on: writes a fresh session into a slice of 280 bytes and gives 0. Any other
+/// slice is left as it is, and the answer is 4.
+pub fn power_on(session: &mut [u8]) -> u8 {
+    // SAFETY: the pointer and the length are one slice's, lent for the call.
+    unsafe { exported::oilthicket_power_on(session.as_mut_ptr(), session.len()) }
+}
+
+/// Takes one UART byte with the session in a slice, which then holds the next one.
+pub fn take_byte(session: &mut [u8], byte: u8, lent: &mut Lent) -> Taken {
+    let mut length = UNWRITTEN;
+    // SAFETY: each pointer and length are one slice's; `&mut` keeps the slices apart for the call.
+    let number = unsafe {
+        exported::oilthicket_take_byte(
+            session.as_mut_ptr(),
+            session.len(),
+            byte,
+            lent.flash.as_mut_ptr(),
+            lent.flash.len(),
+            lent.sram.as_mut_ptr(),
+            lent.sram.len(),
+            lent.usd.as_mut_ptr(),
+            lent.usd.len(),
+            lent.buffer.as_mut_ptr(),
+            lent.buffer.len(),
+            &mut length,
+        )
+    };
+    Taken { number, length }
+}
+
+/// Takes one CAN frame with the session in a slice, which then holds the next one.
+pub fn take_frame(session: &mut [u8], frame: &[u8], lent: &mut Lent) -> Taken {
+    let mut length = UNWRITTEN;
+    // SAFETY: each pointer and length are one slice's; `&mut` keeps the slices apart for the call.
+    let number = unsafe {
+        exported::oilthicket_take_frame(
+            session.as_mut_ptr(),
+            session.len(),
+            frame.as_ptr(),
+            frame.len(),
+            lent.flash.as_mut_ptr(),
+            lent.flash.len(),
+            lent.sram.as_mut_ptr(),
+            lent.sram.len(),
+            lent.usd.as_mut_ptr(),
+            lent.usd.len(),
+            lent.buffer.as_mut_ptr(),
+            lent.buffer.len(),
+            &mut length,
+        )
+    };
+    Taken { number, length }
+}
+
+/// A session that keeps its bytes between calls.
+#[derive(Clone, Debug, PartialEq, Eq)]
+pub struct Session {
+    /// Carrier, step, taken, expected, address, speed and the staged bytes, numbers high byte first.
+    pub bytes: [u8; SESSION_BYTES],
+}
+
+impl Session {
+    /// A fresh session.
+    pub fn power_on() -> Session {
+        let mut bytes = [0; SESSION_BYTES];
+        power_on(&mut bytes);
+        Session { bytes }
+    }
+
+    /// Takes one UART byte, and becomes the next session.
+    pub fn take_byte(&mut self, byte: u8, lent: &mut Lent) -> Taken {
+        take_byte(&mut self.bytes, byte, lent)
+    }
+
+    /// Takes one CAN frame, and becomes the next session.
+    pub fn take_frame(&mut self, frame: &[u8], lent: &mut Lent) -> Taken {
+        take_frame(&mut self.bytes, frame, lent)
+    }
+}

@@ -1,0 +1,71 @@
+//! All that a call is given and leaves, so that two boards are compared byte by byte.
+
+use linked::{Lent, SESSION_BYTES};
+use second::{Session, Store};
+
+/// What reply buffers hold before a call.
+pub const UNTOUCHED: u8 = 0xC3;
+
+/// The length of a reply buffer that every call takes.
+pub const ROOM: usize = 363;
+
+/// Where the staged bytes of a session begin.
+const STAGED: usize = 23;
+
+/// The bytes that a session is lent in.
+pub fn session_bytes(session: &Session) -> [u8; SESSION_BYTES] {
+    let mut bytes = [0; SESSION_BYTES];
+    bytes[0] = session.carrier;
+    bytes[1] = session.step;
+    bytes[2..10].copy_from_slice(&(session.taken as u64).to_be_bytes());
+    bytes[10..18].copy_from_slice(&(session.expected as u64).to_be_bytes());
+    bytes[18..22].copy_from_slice(&session.address.to_be_bytes());
+    bytes[22] = session.speed;
+    bytes[STAGED..].copy_from_slice(&session.staged);
+    bytes
+}
+
+/// What is lent to a call: a session's slice, the memories and the reply buffer.
+#[derive(Clone, Debug, PartialEq, Eq)]
+pub struct Bench {
+    /// The slice of the session.
+    pub session: Vec<u8>,
+    /// The memories.
+    pub store: Store,
+    /// The reply buffer.
+    pub buffer: Vec<u8>,
+}
+
+impl Bench {
+    /// The fresh board, just powered, with a reply buffer that every call takes.
+    pub fn fresh() -> Bench {
+        Bench {
+            session: session_bytes(&Session::power_on()).to_vec(),
+            store: Store::fresh(),
+            buffer: vec![UNTOUCHED; ROOM],
+        }
+    }
+
+    /// Gives a UART byte to the linked board.
+    pub fn take_byte(&mut self, byte: u8) -> linked::Taken {
+        let (session, mut lent) = self.lend();
+        linked::take_byte(session, byte, &mut lent)
+    }
+
+    /// Gives a CAN frame to the linked board.
+    pub fn take_frame(&mut self, frame: &[u8]) -> linked::Taken {
+        let (session, mut lent) = self.lend();
+        linked::take_frame(session, frame, &mut lent)
+    }
+
+    /// Lends everything.
+    fn lend(&mut self) -> (&mut [u8], Lent<'_>) {
+        let lent = Lent {
+            flash: &mut self.store.flash,
+            sram: &mut self.store.sram,
+            usd: &mut self.store.usd,
+            buffer: &mut self.buffer,
+        };
+        (&mut self.session, lent)
+    }
+}

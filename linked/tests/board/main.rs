@@ -1,0 +1,7 @@
+//! Tests of the linked board: the second program says what each call must give and leave.
+
+mod bench;
+mod random_calls;
+mod runs;
+mod talk;
+mod wrong_lengths;

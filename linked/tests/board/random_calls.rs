@@ -1,0 +1,83 @@
+//! Random single calls, each on a session and buffers of its own: wrong lengths, unsound sessions,
+//! huge numbers and frames of any length among them.
+
+use crate::bench::{session_bytes, Bench};
+use linked::Taken;
+use second::vectors::{coverage, random, Input, Vector};
+use second::ACCEPTED;
+use std::env;
+use std::str::FromStr;
+
+/// The seed of the vectors, and how many calls are made, where the environment says no other.
+const SEED: u64 = 1;
+const CALLS: usize = 100_000;
+
+/// How many calls must have each number, of so many.
+const ENOUGH: usize = 100;
+
+/// How many of the vectors are looked at for what they reach, which takes longer than the calls.
+const LOOKED_AT: usize = 5_000;
+
+/// The number that a variable of the environment holds, or another.
+fn wanted<N: FromStr>(variable: &str, other: N) -> N {
+    let held = env::var(variable).ok();
+    held.and_then(|text| text.parse().ok()).unwrap_or(other)
+}
+
+/// What a vector lends.
+fn lent(vector: &Vector) -> Bench {
+    Bench {
+        session: session_bytes(&vector.session()).to_vec(),
+        store: vector.store(),
+        buffer: vector.reply.fill.bytes(vector.reply.length),
+    }
+}
+
+/// Makes a vector's call on the linked board: what it gives, and all that it leaves.
+fn linked_call(vector: &Vector) -> (Taken, Bench) {
+    let mut bench = lent(vector);
+    let taken = match &vector.input {
+        Input::Byte(byte) => bench.take_byte(*byte),
+        Input::Frame(frame) => bench.take_frame(frame),
+    };
+    (taken, bench)
+}
+
+/// Makes a vector's call on the second board: what it gives, and all that it leaves.
+fn second_call(vector: &Vector) -> (Taken, Bench) {
+    let after = vector.call();
+    let (number, length) = match after.called {
+        Ok(taken) => (ACCEPTED, taken.length),
+        Err(cause) => (cause as u8, 0),
+    };
+    let bench = Bench {
+        session: session_bytes(&after.session).to_vec(),
+        store: after.store,
+        buffer: after.reply,
+    };
+    (Taken { number, length }, bench)
+}
+
+/// Both boards give the same number and length, and leave the same bytes everywhere.
+#[test]
+fn random_calls_agree() {
+    let (seed, calls) = (wanted("LINKED_SEED", SEED), wanted("LINKED_CALLS", CALLS));
+    let mut numbers = [0; 6];
+    for vector in random(seed, calls) {
+        let (taken, bench) = linked_call(&vector);
+        let (expected, left) = second_call(&vector);
+        let line = String::from_utf8_lossy(&vector.line()).into_owned();
+        assert_eq!(taken, expected, "{line}");
+        assert!(bench == left, "a lent byte differs: {line}");
+        numbers[usize::from(taken.number)] += 1;
+    }
+    println!("seed {seed}, {calls} calls agree; by their number, 0 to 5: {numbers:?}");
+    assert!(calls < CALLS || numbers.iter().all(|count| *count >= ENOUGH));
+}
+
+/// The vectors reach every point that vectors are to reach.
+#[test]
+fn random_calls_reach_every_point() {
+    let tally = coverage(&random(SEED, LOOKED_AT));
+    assert_eq!(tally.missing().collect::<Vec<_>>(), Vec::<&str>::new());
+}
