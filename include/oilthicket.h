@@ -1,0 +1,72 @@
+/* The calls of the classroom boot board, from the static library that `rt staticlib exports` writes.
+ *
+ * What is lent belongs to the caller. Each pointer stands before so many bytes as the length behind it
+ * says, none is NULL, and no two of them share a byte. Any lengths may be lent: the answer to wrong
+ * ones is a number, and nothing has changed then. Nothing is kept between calls but in what is lent.
+ *
+ * A session is lent in 280 bytes, numbers high byte first:
+ *   0 carrier, 1 step, 2 to 9 taken, 10 to 17 expected, 18 to 21 address, 22 speed, 23 to 279 staged.
+ * A caller need not look into them: power on writes them, and each call that is accepted hands them on.
+ */
+#ifndef OILTHICKET_H
+#define OILTHICKET_H
+
+#include <stddef.h>
+#include <stdint.h>
+
+#ifdef __cplusplus
+extern "C" {
+#endif
+
+/* The bytes of a session, and of the three memories. */
+#define OILTHICKET_SESSION_BYTES 280
+#define OILTHICKET_FLASH_BYTES 32768
+#define OILTHICKET_SRAM_BYTES 8192
+#define OILTHICKET_USD_BYTES 64
+
+/* The least bytes of a reply buffer: for a UART byte, and for a CAN frame. */
+#define OILTHICKET_UART_REPLY_BYTES 257
+#define OILTHICKET_CAN_REPLY_BYTES 363
+
+/* The bytes of a CAN frame: ID (two bytes, high first), DLC, eight data bytes. */
+#define OILTHICKET_FRAME_BYTES 11
+
+/* The numbers that calls give: accepted, and the five causes in the order in which they are tested. */
+#define OILTHICKET_ACCEPTED 0
+#define OILTHICKET_WRONG_MEMORY 1
+#define OILTHICKET_SHORT_REPLY 2
+#define OILTHICKET_BAD_FRAME 3
+#define OILTHICKET_UNSOUND_SESSION 4
+#define OILTHICKET_BOARD_RUNNING 5
+
+/* Powers the board on: writes a fresh session into a slice of 280 bytes and gives 0. A slice of another
+ * length stays as it was, and the answer is 4. The memories are not touched. */
+uint8_t oilthicket_power_on(uint8_t *session, size_t session_length);
+
+/* Takes one UART byte. Gives the number of the call, writes the length of the reply to *length, and the
+ * reply to the front of the buffer; the session then holds the next one. A refused call has length 0 and
+ * leaves every other byte that was lent. A session's slice that is not 280 bytes long is an unsound
+ * session. */
+uint8_t oilthicket_take_byte(uint8_t *session, size_t session_length,
+                             uint8_t byte,
+                             uint8_t *flash, size_t flash_length,
+                             uint8_t *sram, size_t sram_length,
+                             uint8_t *usd, size_t usd_length,
+                             uint8_t *buffer, size_t buffer_length,
+                             size_t *length);
+
+/* Takes one CAN frame, of 11 bytes, as a UART byte is taken. The reply is frames of 11 bytes, one behind
+ * the other. */
+uint8_t oilthicket_take_frame(uint8_t *session, size_t session_length,
+                              const uint8_t *frame, size_t frame_length,
+                              uint8_t *flash, size_t flash_length,
+                              uint8_t *sram, size_t sram_length,
+                              uint8_t *usd, size_t usd_length,
+                              uint8_t *buffer, size_t buffer_length,
+                              size_t *length);
+
+#ifdef __cplusplus
+}
+#endif
+
+#endif
