@@ -1,4 +1,5 @@
-/* Connects over UART and asks for the version: prints what is said and what the board answers. */
+/* Connects on UART and asks for the version, then powers the board on again and connects on CAN; prints
+ * what is sent and what the board answers. */
 #include <stdio.h>
 #include <string.h>
 
@@ -8,34 +9,60 @@ static uint8_t session[OILTHICKET_SESSION_BYTES];
 static uint8_t flash[OILTHICKET_FLASH_BYTES];
 static uint8_t sram[OILTHICKET_SRAM_BYTES];
 static uint8_t usd[OILTHICKET_USD_BYTES];
-static uint8_t buffer[OILTHICKET_UART_REPLY_BYTES];
+static uint8_t buffer[OILTHICKET_CAN_REPLY_BYTES];
 
-/* Says one byte, prints the reply and gives the number of the call. */
-static uint8_t say(uint8_t byte)
+/* Prints bytes, each behind a space. */
+static void print(const uint8_t *bytes, size_t length)
+{
+    for (size_t i = 0; i < length; i++)
+        printf(" %02X", bytes[i]);
+}
+
+/* Prints what was sent and what was answered; gives whether the call was accepted. */
+static int answered(const uint8_t *sent, size_t sent_length, uint8_t number, size_t length)
+{
+    print(sent, sent_length);
+    printf(" >");
+    print(buffer, length);
+    printf("\n");
+    return number == OILTHICKET_ACCEPTED;
+}
+
+/* Sends one UART byte. */
+static int say(uint8_t byte)
 {
     size_t length;
     uint8_t number = oilthicket_take_byte(session, sizeof session, byte, flash, sizeof flash, sram, sizeof sram,
                                           usd, sizeof usd, buffer, sizeof buffer, &length);
-    printf("%02X >", byte);
-    for (size_t i = 0; i < length; i++)
-        printf(" %02X", buffer[i]);
-    printf("\n");
-    return number;
+    return answered(&byte, 1, number, length);
+}
+
+/* Sends one CAN frame. */
+static int send(const uint8_t frame[OILTHICKET_FRAME_BYTES])
+{
+    size_t length;
+    uint8_t number = oilthicket_take_frame(session, sizeof session, frame, OILTHICKET_FRAME_BYTES,
+                                           flash, sizeof flash, sram, sizeof sram,
+                                           usd, sizeof usd, buffer, sizeof buffer, &length);
+    return answered(frame, OILTHICKET_FRAME_BYTES, number, length);
+}
+
+/* Powers the board on. */
+static int power_on(void)
+{
+    return oilthicket_power_on(session, sizeof session) == OILTHICKET_ACCEPTED;
 }
 
 int main(void)
 {
-    static const uint8_t bytes[] = {0x7F, 0x01, 0xFE};
+    static const uint8_t connect[OILTHICKET_FRAME_BYTES] = {0x00, 0x79};
 
     /* The fresh board: flash and user system data erased, protection off. */
     memset(flash, 0xFF, sizeof flash);
     memset(usd, 0xFF, sizeof usd);
     usd[0] = 0xA5;
 
-    if (oilthicket_power_on(session, sizeof session) != OILTHICKET_ACCEPTED)
-        return 1;
-    for (size_t i = 0; i < sizeof bytes; i++)
-        if (say(bytes[i]) != OILTHICKET_ACCEPTED)
-            return 1;
-    return 0;
+    if (power_on() && say(0x7F) && say(0x01) && say(0xFE) && power_on() && send(connect))
+        return 0;
+    return 1;
 }
