@@ -6,6 +6,8 @@ ghost use Rattle.words.specs.Lists.{part};
 ghost use Rattle.words.specs.Over.{put};
 ghost use Rattle.board.specs.Quantities.{addressBytes};
 ghost use Rattle.memories.specs.Effects.{stagedBytes};
+ghost use Rattle.boot.specs.Causes.{causeNo};
+ghost use Rattle.boot.specs.declared.Cause.the-variants.{Accepted};
 ghost use Rattle.exports.specs.Sessions.{sessionLength, countBytes, stagedPlace, eightBytes, sessionBytes, heldIn, noSession, sessionIn};
 ghost use Rattle.exports.specs.Promise.{HandsOn};
 use boot::Session;
@@ -156,7 +158,7 @@ pub fn write(session: Session, lent: &mut [u8])
 
 // Tells the number of a call, and hands its session on where it was accepted.
 pub fn hand_on(taken: Taken, session: &mut [u8]) -> u8
-    requires { ⌜ (taken .number ≡ 0 → length (now session) ≡ sessionLength) ⌝ }
+    requires { ⌜ (taken .number ≡ causeNo Accepted → length (now session) ≡ sessionLength) ⌝ }
     ensures { λ r. ⌜ (r ≡ taken .number) × HandsOn taken (now (session .entry)) (now (session .exit)) ⌝ }
 {
     let number = taken.number;
