@@ -1,65 +1,44 @@
-//! Runs two programs `desk` on the same inputs, one after the other, and prints how long each took.
+//! How fast the proved board is beside the second program.
 //!
-//!     bench FIRST SECOND FOLDER MEGABYTES...
+//!     bench desks FIRST SECOND FOLDER MEGABYTES...
+//!     bench calls
 
-mod measure;
+mod calls;
+mod desks;
 mod workload;
 
 use std::env;
-use std::io;
 use std::path::Path;
 use std::process::ExitCode;
 
-use measure::Pair;
-use workload::Workload;
+/// What the program is called with.
+const USAGE: &str = "bench desks FIRST SECOND FOLDER MEGABYTES... | bench calls";
 
-/// The bytes of a megabyte.
-const MEGABYTE: usize = 1_000_000;
-
-/// Measures one workload at one size, and prints a row of the table.
-fn row(workload: &Workload, megabytes: usize, programs: &[&str; 2], folder: &Path) -> io::Result<()> {
-    let input = folder.join("input");
-    workload.write(megabytes * MEGABYTE, &input)?;
-    let Pair { first, second } = measure::both(programs, &input, folder)?;
-    println!(
-        "| {} | {} | {:.3} | {:.3} | {:.2} | {:.1} |",
-        workload.name(),
-        megabytes,
-        first,
-        second,
-        second / first,
-        first * 1000.0 / megabytes as f64,
-    );
-    Ok(())
+/// Tells that something went wrong.
+fn fail(why: &str) -> ExitCode {
+    eprintln!("bench: {why}");
+    ExitCode::FAILURE
 }
 
-/// Measures every workload at every size.
-fn table(programs: &[&str; 2], folder: &Path, sizes: &[usize]) -> io::Result<()> {
-    println!("| workload | MB | first (s) | second (s) | second / first | first, ms for each MB |");
-    println!("|---|---|---|---|---|---|");
-    for workload in Workload::ALL {
-        for &megabytes in sizes {
-            row(&workload, megabytes, programs, folder)?;
-        }
+/// Measures two programs `desk`.
+fn desks(first: &str, second: &str, folder: &str, sizes: &[String]) -> ExitCode {
+    let Ok(sizes) = sizes.iter().map(|word| word.parse()).collect::<Result<Vec<usize>, _>>() else {
+        return fail("a size is a number of megabytes");
+    };
+    match desks::table(&[first, second], Path::new(folder), &sizes) {
+        Ok(()) => ExitCode::SUCCESS,
+        Err(error) => fail(&error.to_string()),
     }
-    Ok(())
 }
 
 fn main() -> ExitCode {
     let words: Vec<String> = env::args().skip(1).collect();
-    let [first, second, folder, sizes @ ..] = words.as_slice() else {
-        eprintln!("bench FIRST SECOND FOLDER MEGABYTES...");
-        return ExitCode::FAILURE;
-    };
-    let Ok(sizes) = sizes.iter().map(|word| word.parse()).collect::<Result<Vec<usize>, _>>() else {
-        eprintln!("bench: a size is a number of megabytes");
-        return ExitCode::FAILURE;
-    };
-    match table(&[first, second], Path::new(folder), &sizes) {
-        Ok(()) => ExitCode::SUCCESS,
-        Err(error) => {
-            eprintln!("bench: {error}");
-            ExitCode::FAILURE
+    match words.iter().map(String::as_str).collect::<Vec<_>>()[..] {
+        ["desks", first, second, folder, ..] => desks(first, second, folder, &words[4..]),
+        ["calls"] => {
+            calls::table();
+            ExitCode::SUCCESS
         }
+        _ => fail(USAGE),
     }
 }

@@ -1,10 +1,6 @@
-//! The inputs: lines of a pupil's host tool that fill and read the board.
+//! What the boards are given to do: a host tool that fills the memories and reads them, or sums flash.
 
-use std::fs::File;
-use std::io::{self, BufWriter, Write};
-use std::path::Path;
-
-/// What is written and read, by its address: all of flash and all of SRAM, 256 bytes at a time.
+/// What is written and read, 256 bytes at a time: all of flash, then all of SRAM, and again.
 const BLOCK: usize = 256;
 const FLASH: u32 = 0x0800_0000;
 const FLASH_BYTES: usize = 32 * 1024;
@@ -12,9 +8,39 @@ const SRAM: u32 = 0x2000_0000;
 const SRAM_BYTES: usize = 8 * 1024;
 
 /// The data bytes of a CAN frame.
-const FRAME: usize = 8;
+const CLASSIC: usize = 8;
 
-/// What `desk` is given to do.
+/// One thing that a host says: bytes on UART, or a frame on CAN.
+pub enum Said {
+    Bytes(Vec<u8>),
+    Frame(u8, Vec<u8>),
+}
+
+impl Said {
+    /// The line by which `desk` is told.
+    pub fn line(&self) -> String {
+        let (mut line, bytes) = match self {
+            Said::Bytes(bytes) => (String::from("U"), bytes),
+            Said::Frame(id, bytes) => (format!("C {id:03X}"), bytes),
+        };
+        for byte in bytes {
+            line.push_str(&format!(" {byte:02X}"));
+        }
+        line.push('\n');
+        line
+    }
+
+    /// How many bytes, or frames, it is.
+    pub fn calls(&self) -> usize {
+        match self {
+            Said::Bytes(bytes) => bytes.len(),
+            Said::Frame(..) => 1,
+        }
+    }
+}
+
+/// A kind of work.
+#[derive(Clone, Copy)]
 pub enum Workload {
     Uart,
     Can,
@@ -22,11 +48,11 @@ pub enum Workload {
 }
 
 impl Workload {
-    /// Every workload.
+    /// Every kind.
     pub const ALL: [Workload; 3] = [Workload::Uart, Workload::Can, Workload::Crc];
 
-    /// What a row of the table calls it.
-    pub fn name(&self) -> &'static str {
+    /// What a row of a table calls it.
+    pub fn name(self) -> &'static str {
         match self {
             Workload::Uart => "UART writes and reads",
             Workload::Can => "CAN writes and reads",
@@ -34,65 +60,46 @@ impl Workload {
         }
     }
 
-    /// Writes an input of about this many bytes; for a CRC, one that has about this many bytes summed.
-    pub fn write(&self, bytes: usize, path: &Path) -> io::Result<()> {
-        let mut out = BufWriter::new(File::create(path)?);
-        out.write_all(self.connect())?;
-        let mut done = 0;
-        let mut round = 0;
-        while done < bytes {
-            let lines = self.lines(block(round), round);
-            out.write_all(&lines)?;
-            done += match self {
-                Workload::Crc => FLASH_BYTES,
-                _ => lines.len(),
-            };
-            round += 1;
-        }
-        out.flush()
-    }
-
-    /// The line that connects.
-    fn connect(&self) -> &'static [u8] {
+    /// What connects.
+    pub fn connect(self) -> Said {
         match self {
-            Workload::Can => b"C 079\n",
-            _ => b"U 7F\n",
+            Workload::Can => Said::Frame(0x79, vec![]),
+            Workload::Uart | Workload::Crc => Said::Bytes(vec![0x7F]),
         }
     }
 
-    /// The lines of one round.
-    fn lines(&self, address: u32, round: usize) -> Vec<u8> {
+    /// What is said in one round.
+    pub fn round(self, round: usize) -> Vec<Said> {
         match self {
-            Workload::Uart => uart(address, round),
-            Workload::Can => can(address, round),
-            Workload::Crc => line("U", &[0xAC, 0x53, 0x08, 0x00, 0x00, 0x00, 0x08, 0x00, 0x1F, 0xE0]),
+            Workload::Uart => uart(round),
+            Workload::Can => can(round),
+            Workload::Crc => vec![Said::Bytes(vec![0xAC, 0x53, 0x08, 0, 0, 0, 0x08, 0x00, 0x1F, 0xE0])],
+        }
+    }
+
+    /// How much work a round is, in bytes: the characters of its lines, or the flash that is summed.
+    pub fn work(self, said: &[Said]) -> usize {
+        match self {
+            Workload::Crc => FLASH_BYTES,
+            Workload::Uart | Workload::Can => said.iter().map(|said| said.line().len()).sum(),
         }
     }
 }
 
 /// The address of a round's block.
-fn block(round: usize) -> u32 {
+fn address(round: usize) -> [u8; 4] {
     let at = round * BLOCK % (FLASH_BYTES + SRAM_BYTES);
-    if at < FLASH_BYTES {
+    let address = if at < FLASH_BYTES {
         FLASH + at as u32
     } else {
         SRAM + (at - FLASH_BYTES) as u32
-    }
+    };
+    address.to_be_bytes()
 }
 
 /// The bytes of a round's block: in flash a bit that has fallen stays so, in SRAM each round shows.
 fn data(round: usize) -> Vec<u8> {
     (0..BLOCK).map(|i| (i * 7 + round) as u8).collect()
-}
-
-/// A line: what it begins with, and bytes in hex.
-fn line(begin: &str, bytes: &[u8]) -> Vec<u8> {
-    let mut line = begin.as_bytes().to_vec();
-    for byte in bytes {
-        line.extend(format!(" {byte:02X}").bytes());
-    }
-    line.push(b'\n');
-    line
 }
 
 /// Bytes and the XOR of them.
@@ -102,21 +109,19 @@ fn checked(mut bytes: Vec<u8>) -> Vec<u8> {
 }
 
 /// A write of a block and a read of it, over UART.
-fn uart(address: u32, round: usize) -> Vec<u8> {
-    let at = checked(address.to_be_bytes().to_vec());
+fn uart(round: usize) -> Vec<Said> {
+    let at = checked(address(round).to_vec());
     let counted = checked([vec![0xFF], data(round)].concat());
     let write = [vec![0x31, 0xCE], at.clone(), counted].concat();
     let read = [vec![0x11, 0xEE], at, vec![0xFF, 0x00]].concat();
-    [line("U", &write), line("U", &read)].concat()
+    vec![Said::Bytes(write), Said::Bytes(read)]
 }
 
 /// A write of a block and a read of it, over CAN.
-fn can(address: u32, round: usize) -> Vec<u8> {
-    let what = [address.to_be_bytes().to_vec(), vec![0xFF]].concat();
-    let mut lines = line("C 031", &what);
-    for part in data(round).chunks(FRAME) {
-        lines.extend(line("C 031", part));
-    }
-    lines.extend(line("C 011", &what));
-    lines
+fn can(round: usize) -> Vec<Said> {
+    let what = [address(round).to_vec(), vec![0xFF]].concat();
+    let mut said = vec![Said::Frame(0x31, what.clone())];
+    said.extend(data(round).chunks(CLASSIC).map(|part| Said::Frame(0x31, part.to_vec())));
+    said.push(Said::Frame(0x11, what));
+    said
 }

@@ -159,67 +159,49 @@ unfolding kindOf
 kind-beyond [] h = refl
 kind-beyond (c ∷ rest) h = rw (le-ltb (length rest) 800 (omega arith)) refl
 
--- a line of bytes has a letter, and fields behind it; a line of a frame has a letter, and a frame behind it
-isBytes : Kind → Bool
-isBytes Bytes = true
-isBytes PowerOn = false
-isBytes Other = false
-isBytes Frame = false
-
-isFrame : Kind → Bool
-isFrame Bytes = false
-isFrame PowerOn = false
-isFrame Other = false
-isFrame Frame = true
+-- what a line of a kind has behind its letter: hex bytes, a frame, or whatever else
+asked : Kind → Bool → Bool → Bool
+asked Bytes fields frame = fields
+asked Frame fields frame = frame
+asked PowerOn fields frame = true
+asked Other fields frame = true
 
 -- the kind by its tests: that of the length, of the letter and what follows it, for each kind
 abbrev kindWhere : Bool → Bool → Bool → Bool → Bool → Bool → Kind
 kindWhere short letter fields power other frame =
     if short then (if letter && fields then Bytes else if power then PowerOn else if other && frame then Frame else Other) else Other
 
-bytes-where : (short letter fields power other frame : Bool) → T (isBytes (kindWhere short letter fields power other frame)) → T fields
-unfolding isBytes
-bytes-where true true true power other frame t = tt
-bytes-where true true false true other frame t = t
-bytes-where true true false false true true t = t
-bytes-where true true false false true false t = t
-bytes-where true true false false false frame t = t
-bytes-where true false fields true other frame t = absurd t
-bytes-where true false fields false true true t = absurd t
-bytes-where true false fields false true false t = absurd t
-bytes-where true false fields false false frame t = absurd t
-bytes-where false letter fields power other frame t = absurd t
+asked-where : (short letter fields power other frame : Bool) → T (asked (kindWhere short letter fields power other frame) fields frame)
+unfolding asked
+asked-where true true true power other frame = tt
+asked-where true true false true other frame = tt
+asked-where true true false false true true = tt
+asked-where true true false false true false = tt
+asked-where true true false false false frame = tt
+asked-where true false fields true other frame = tt
+asked-where true false fields false true true = tt
+asked-where true false fields false true false = tt
+asked-where true false fields false false frame = tt
+asked-where false letter fields power other frame = tt
 
-frame-where : (short letter fields power other frame : Bool) → T (isFrame (kindWhere short letter fields power other frame)) → T frame
-unfolding isFrame
-frame-where true true true power other frame t = absurd t
-frame-where true true false true other frame t = absurd t
-frame-where true true false false true true t = tt
-frame-where true true false false true false t = t
-frame-where true true false false false frame t = absurd t
-frame-where true false fields true other frame t = absurd t
-frame-where true false fields false true true t = tt
-frame-where true false fields false true false t = t
-frame-where true false fields false false frame t = absurd t
-frame-where false letter fields power other frame t = absurd t
+-- a line of bytes or of a frame has a letter, and these behind it
+line-asked : (k : Kind) (line : List ℕ) → kindOf line ≡ k → (T (asked k false false) → ⊥)
+    → (0 < length line) × T (asked k (areFields (drop 1 line)) (areFrame (drop 1 line)))
+unfolding kindOf asked
+line-asked k [] e n = absurd (n (subst (λ (l : Kind). T (asked l false false)) e tt))
+line-asked k (c ∷ rest) e n = (
+  omega arith,
+  subst (λ (l : Kind). T (asked l (areFields rest) (areFrame rest))) e
+      (asked-where (ltb (length rest) mostCharacters) (eqb c letterU && ltb 0 (length rest)) (areFields rest) (eqb c letterP && eqb (length rest) 0) (eqb c letterC) (areFrame rest)),
+)
 
 pub bytes-line : (line : List ℕ) → kindOf line ≡ Bytes → (0 < length line) × T (areFields (drop 1 line))
-unfolding kindOf isBytes
-bytes-line line e = by-line line (subst (λ (k : Kind). T (isBytes k)) (sym e) tt)
-  where
-    by-line : (line : List ℕ) → T (isBytes (kindOf line)) → (0 < length line) × T (areFields (drop 1 line))
-    by-line [] t = absurd t
-    by-line (c ∷ rest) t =
-        (omega arith, bytes-where (ltb (length rest) mostCharacters) (eqb c letterU && ltb 0 (length rest)) (areFields rest) (eqb c letterP && eqb (length rest) 0) (eqb c letterC) (areFrame rest) t)
+unfolding asked
+bytes-line line e = line-asked Bytes line e (λ t. t)
 
 pub frame-line : (line : List ℕ) → kindOf line ≡ Frame → (0 < length line) × T (areFrame (drop 1 line))
-unfolding kindOf isFrame
-frame-line line e = by-line line (subst (λ (k : Kind). T (isFrame k)) (sym e) tt)
-  where
-    by-line : (line : List ℕ) → T (isFrame (kindOf line)) → (0 < length line) × T (areFrame (drop 1 line))
-    by-line [] t = absurd t
-    by-line (c ∷ rest) t =
-        (omega arith, frame-where (ltb (length rest) mostCharacters) (eqb c letterU && ltb 0 (length rest)) (areFields rest) (eqb c letterP && eqb (length rest) 0) (eqb c letterC) (areFrame rest) t)
+unfolding asked
+frame-line line e = line-asked Frame line e (λ t. t)
 
 -- ---- hex bytes in two parts
 
