@@ -29,14 +29,6 @@ impl Said {
         line.push('\n');
         line
     }
-
-    /// How many bytes, or frames, it is.
-    pub fn calls(&self) -> usize {
-        match self {
-            Said::Bytes(bytes) => bytes.len(),
-            Said::Frame(..) => 1,
-        }
-    }
 }
 
 /// A kind of work.
