@@ -20,16 +20,18 @@ use Rattle.boot.specs.Causes.{accepts}
 use Rattle.boot.specs.Calls.{State, powered, Input, Power, Byte, Framed, commandsOf, bears, causeFor, decide, sent, perform, refused, call}
 use Rattle.boot.specs.Promise.{Given, Left, givenByte, stateOf, outcome, Took}
 use Rattle.boot.specs.declared.Session.{Session}
-use Rattle.lines.specs.Digits.{byteIn, decimal}
-use Rattle.lines.specs.Lines.{lineFeed, space, fields}
+use Rattle.words.specs.Hex.{space}
+use Rattle.lines.specs.Digits.{byteIn}
+use Rattle.lines.specs.Lines.{lineFeed, fields}
+use Rattle.print.specs.Digits.{decimal}
 use Rattle.answers.specs.Told.{Told, quiet, _then_}
-use Rattle.lines.specs.Prints.{spelled}
+use Rattle.print.specs.Prints.{spelled}
 use Rattle.answers.specs.Answers.{answered, notUnderstood, deskRoom, spelledFor, tell, tells, callsOf, obeyed, notice, answerBy}
 use Rattle.answers.specs.Promise.{Tells}
 use Rattle.lines.specs.declared.Kind.{Kind}
 use Rattle.lines.specs.declared.Kind.the-variants.{Bytes, Frame, PowerOn, Other}
 use Rattle.lines.proofs.Kind.{the-type}
-use Rattle.lines.proofs.Printing.{length-spelled}
+use Rattle.print.proofs.Printing.{length-spelled}
 use Rattle.lines.proofs.Lines.{field-first}
 
 module _ (g : Given) (l : Left) (t : Took g l) where

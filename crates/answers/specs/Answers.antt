@@ -4,9 +4,10 @@ use mathlib.Core.List.{List, [], _∷_, _++_, map}
 use lib.ListN.{drop}
 use Rattle.can.specs.Conversation.{canRoom}
 use Rattle.boot.specs.Calls.{State, Input, Power, Byte, Framed, call}
-use Rattle.lines.specs.Digits.{decimal}
-use Rattle.lines.specs.Lines.{lineFeed, space, fields, frameWritten, kindOf}
-use Rattle.lines.specs.Prints.{spelled, spelledFrames}
+use Rattle.words.specs.Hex.{space}
+use Rattle.lines.specs.Lines.{lineFeed, fields, frameWritten, kindOf}
+use Rattle.print.specs.Digits.{decimal}
+use Rattle.print.specs.Prints.{spelled, spelledFrames}
 use Rattle.answers.specs.Told.{Told, quiet, _then_}
 use Rattle.lines.specs.declared.Kind.{Kind}
 use Rattle.lines.specs.declared.Kind.the-variants.{Bytes, Frame, PowerOn, Other}

@@ -9,7 +9,7 @@ use Rattle.boot.specs.Calls.{Byte}
 use Rattle.boot.specs.Promise.{stateOf}
 use Rattle.boot.specs.declared.Session.{Session}
 use Rattle.lines.specs.Lines.{areFields, fields}
-use Rattle.lines.specs.Prints.{numberRoom}
+use Rattle.print.specs.Prints.{numberRoom}
 use Rattle.answers.specs.Answers.{deskRoom, tells}
 use Rattle.answers.specs.Desk as D
 use Rattle.answers.specs.Told.{Told}

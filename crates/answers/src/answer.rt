@@ -3,10 +3,11 @@ ghost use mathlib.Core.List.{[], _∷_, map};
 ghost use Prim.Native.Nat.{_+_, _*_, _≤_, _<_};
 ghost use lib.Dec.{T};
 ghost use lib.ListN.{length};
+ghost use Rattle.words.specs.Hex.{fieldCharacters};
 ghost use Rattle.words.specs.Over.{put};
 ghost use Rattle.boot.specs.Calls.{Byte, Framed};
 ghost use Rattle.boot.specs.Promise.{stateOf};
-ghost use Rattle.lines.specs.Lines.{fieldCharacters, areFields, fields, areFrame, frameWritten, kindOf};
+ghost use Rattle.lines.specs.Lines.{areFields, fields, areFrame, frameWritten, kindOf};
 ghost use Rattle.answers.specs.Answers.{deskRoom, tell, tells, callsOf, obeyed, notice, answer};
 ghost use Rattle.answers.specs.Promise.{Tells, Passes, noticeRoom, answerRoom};
 use crate::Answered;
@@ -15,10 +16,9 @@ use boot::Session;
 use lines::Kind;
 use lines::digits;
 use lines::line;
-use lines::line::FIELD;
-use lines::line::SPACE;
-use lines::print;
 use lines::written;
+use words::FIELD;
+use words::SPACE;
 
 // The room for a reply: what either carrier needs.
 const ROOM: usize = can::say::ROOM;

@@ -8,9 +8,9 @@ mod vector;
 
 use libc::STDIN_FILENO;
 use lines::line;
-use lines::line::FIELD;
 use lines::written;
 use vector::BYTES;
+use words::FIELD;
 
 // How many bytes a short number takes, and a long one.
 const SHORT: usize = 4;

@@ -1,7 +1,7 @@
 ghost use mathlib.Core.Path.{_≡_};
 ghost use Prim.Native.Nat.{_+_, _*_, _≤_};
 ghost use lib.ListN.{length};
-ghost use Rattle.lines.specs.Lines.{fieldCharacters};
+ghost use Rattle.words.specs.Hex.{fieldCharacters};
 ghost use Rattle.calls.specs.Sizes.{longBytes, sessionBytes, lentBytes, replyRoom, lineRoom};
 use crate::FIELDS;
 use crate::LONG;
@@ -10,7 +10,6 @@ use crate::wide;
 use boot::Session;
 use boot::Taken;
 use libc::STDOUT_FILENO;
-use lines::print;
 
 // The modulus of a digest's two sums, and how many bits each takes.
 const MODULUS: u64 = 65521;

@@ -1,3 +1,2 @@
-pub mod Spelling
+pub mod Reading
 pub mod Lines
-pub mod Printing

@@ -16,9 +16,9 @@ use Rattle.words.proofs.Over.{put-front, put-all}
 use Rattle.words.proofs.Tests.{both-left, both-right, holds-true}
 use Rattle.frames.specs.Frames.{classic, frameBytes, frame}
 use Rattle.frames.proofs.Cutting.{length-frame}
-use Rattle.words.specs.Hex.{valueOf}
+use Rattle.words.specs.Hex.{space, valueOf}
 use Rattle.lines.specs.Digits.{isDigit, byteIn}
-use Rattle.lines.specs.Lines.{space, letterU, letterP, letterC, mostCharacters, isField, areFields, fields, areFrame, idIn, frameWritten, kindBy, kindOf}
+use Rattle.lines.specs.Lines.{letterU, letterP, letterC, mostCharacters, isField, areFields, fields, areFrame, idIn, frameWritten, kindBy, kindOf}
 use Rattle.lines.specs.declared.Kind.{Kind}
 use Rattle.lines.specs.declared.Kind.the-variants.{Bytes, Frame, PowerOn, Other}
 

@@ -1,32 +1,13 @@
--- Characters that are digits, and bytes and numbers written in them. Assumes nothing.
-use Prim.Native.Nat.{ℕ, zero, suc, _+_, _*_, _/_, _%_}
+-- Characters that are capital hex digits, and the byte that two of them write. Assumes nothing.
+use Prim.Native.Nat.{ℕ, _+_, _*_}
 use mathlib.Core.Bool.{Bool, _&&_, _||_}
-use mathlib.Core.List.{List, [], _∷_, _++_}
-use lib.Dec.{leb, ltb}
-use Rattle.words.specs.Choice.{if_then_else_}
+use lib.Dec.{leb}
 use Rattle.words.specs.Hex.{valueOf}
 
 -- a capital hex digit: 0 to 9, A to F
 abbrev pub isDigit : ℕ → Bool
 isDigit c = (leb 48 c && leb c 57) || (leb 65 c && leb c 70)
 
--- the digit of a value below 16
-abbrev pub digitOf : ℕ → ℕ
-digitOf v = if ltb v 10 then 48 + v else 55 + v
-
 -- the byte that two hex digits write
 abbrev pub byteIn : ℕ → ℕ → ℕ
 byteIn high low = valueOf high * 16 + valueOf low
-
--- the two hex digits of a byte
-abbrev pub digitsOf : ℕ → List ℕ
-digitsOf b = digitOf (b / 16) ∷ digitOf (b % 16) ∷ []
-
--- a number's last decimal digits, at most f of them and no more than it has
-abbrev pub decimalUpTo : ℕ → ℕ → List ℕ
-decimalUpTo zero n = []
-decimalUpTo (suc f) n = if ltb n 10 then digitOf n ∷ [] else decimalUpTo f (n / 10) ++ digitOf (n % 10) ∷ []
-
--- a number in decimal
-abbrev pub decimal : ℕ → List ℕ
-decimal n = decimalUpTo (suc n) n

@@ -6,7 +6,7 @@ use lib.Dec.{eqb, leb, ltb}
 use lib.ListN.{length, getD, drop}
 use Rattle.words.specs.Choice.{if_then_else_}
 use Rattle.frames.specs.Frames.{classic, frame}
-use Rattle.words.specs.Hex.{valueOf}
+use Rattle.words.specs.Hex.{space, fieldCharacters, valueOf}
 use Rattle.lines.specs.Digits.{isDigit, byteIn}
 use Rattle.lines.specs.declared.Kind.{Kind}
 use Rattle.lines.specs.declared.Kind.the-variants.{Bytes, Frame, PowerOn, Other}
@@ -14,12 +14,6 @@ use Rattle.lines.specs.declared.Kind.the-variants.{Bytes, Frame, PowerOn
 -- the characters that lines are made of
 abbrev pub lineFeed : ℕ
 lineFeed = 0x0A
-
-abbrev pub space : ℕ
-space = 0x20
-
-abbrev pub colon : ℕ
-colon = 0x3A
 
 abbrev pub letterU : ℕ
 letterU = 0x55
@@ -33,10 +27,6 @@ letterC = 0x43
 -- the most characters of a line
 abbrev pub mostCharacters : ℕ
 mostCharacters = 800
-
--- how many characters a field takes, with the space before it
-abbrev pub fieldCharacters : ℕ
-fieldCharacters = 3
 
 -- one space and two hex digits
 abbrev pub isField : ℕ → ℕ → ℕ → Bool

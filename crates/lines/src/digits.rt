@@ -2,7 +2,7 @@ ghost use mathlib.Core.Path.{_≡_};
 ghost use Prim.Native.Nat.{_<_};
 ghost use lib.Dec.{T};
 ghost use Rattle.words.specs.Hex.{valueOf};
-ghost use Rattle.lines.specs.Digits.{isDigit, digitOf, byteIn};
+ghost use Rattle.lines.specs.Digits.{isDigit, byteIn};
 
 // Whether a character is a capital hex digit.
 pub fn is_digit(c: u8) -> bool
@@ -25,16 +25,4 @@ pub fn byte_in(high: u8, low: u8) -> u8
     ensures { λ r. ⌜ r ≡ byteIn high low ⌝ }
 {
     value(high) * 16 + value(low)
-}
-
-// The hex digit of a value.
-pub fn digit(value: u8) -> u8
-    requires { ⌜ value < 16 ⌝ }
-    ensures { λ r. ⌜ r ≡ digitOf value ⌝ }
-{
-    if value < 10 {
-        b'0' + value
-    } else {
-        b'A' - 10 + value
-    }
 }

@@ -1,6 +1,5 @@
 pub mod digits;
 pub mod line;
-pub mod print;
 pub mod written;
 
 // What a line asks for.

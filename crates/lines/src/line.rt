@@ -3,15 +3,11 @@ ghost use Prim.Native.Nat.{_<_};
 ghost use Rattle.lines.specs.Lines.{isField, areFields, areFrame, kindBy, kindOf};
 use crate::Kind;
 use crate::digits;
+use words::FIELD;
+use words::SPACE;
 
 // The most characters of a line.
 pub const MOST_CHARACTERS: usize = 800;
-
-// The character between fields.
-pub const SPACE: u8 = b' ';
-
-// How many characters a field takes, with the space before it.
-pub const FIELD: usize = 3;
 
 // How many characters an ID takes, with the space before it.
 pub const ID: usize = 4;

@@ -2,12 +2,13 @@ ghost use mathlib.Core.Path.{_≡_};
 ghost use Prim.Native.Nat.{_*_, _≤_};
 ghost use lib.Dec.{T};
 ghost use lib.ListN.{length};
+ghost use Rattle.words.specs.Hex.{fieldCharacters};
 ghost use Rattle.words.specs.Over.{put};
 ghost use Rattle.frames.specs.Frames.{classic, frameBytes};
-ghost use Rattle.lines.specs.Lines.{fieldCharacters, areFields, fields, areFrame, frameWritten};
+ghost use Rattle.lines.specs.Lines.{areFields, fields, areFrame, frameWritten};
 use crate::digits;
-use crate::line::FIELD;
 use crate::line::ID;
+use words::FIELD;
 
 // Puts the bytes that hex bytes write at the front of a slice, and tells how many they are.
 pub fn bytes(rest: &[u8], out: &mut [u8]) -> usize

@@ -7,6 +7,14 @@ use mathlib.Core.List.{List, [], _∷_}
 use lib.Dec.{leb, ltb}
 use Rattle.words.specs.Choice.{if_then_else_}
 
+-- the character between bytes
+abbrev pub space : ℕ
+space = 0x20
+
+-- how many characters a byte takes, with the space before it
+abbrev pub fieldCharacters : ℕ
+fieldCharacters = 3
+
 -- the value of a capital hex digit
 abbrev pub valueOf : ℕ → ℕ
 valueOf c = if leb c 57 then c - 48 else c - 55

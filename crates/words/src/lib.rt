@@ -7,6 +7,12 @@ ghost use lib.Bits.{bitAnd};
 ghost use Rattle.words.specs.Bytes.{complement, number, xorFrom};
 ghost use Rattle.words.specs.Over.{over, put};
 
+// The character between bytes in hex.
+pub const SPACE: u8 = b' ';
+
+// How many characters a byte in hex takes, with the space before it.
+pub const FIELD: usize = 3;
+
 // Whether the second byte is the complement of the first.
 pub fn is_complement(first: u8, second: u8) -> bool
     ensures { λ r. ⌜ r ≡ eqb second (complement first) ⌝ }

@@ -3,7 +3,7 @@ use borrow.Author.Needs.{needs}
 use native.Mathlib.Omega.{arith}
 use mathlib.Core.Path.{refl}
 use borrow.Author.Tests.{le-leb, lt-leb}
-use Rattle.lines.proofs.Spelling.{low-digit, letter}
+use Rattle.lines.proofs.Reading.{low-digit, letter}
 use Rattle.lines.proofs.digits.value.Statement.{statement}
 use Rattle.lines.proofs.digits.value.Tie as tie
 

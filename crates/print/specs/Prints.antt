@@ -1,10 +1,14 @@
 -- Which characters are printed for which bytes: document 01, "The program desk".
 use Prim.Native.Nat.{ℕ, _/_, _%_}
 use mathlib.Core.List.{List, [], _∷_, _++_}
+use Rattle.words.specs.Hex.{space}
 use Rattle.words.specs.Lists.{cut}
 use Rattle.frames.specs.Frames.{classic, Frame, frameBytes, frameIn, carried}
-use Rattle.lines.specs.Digits.{digitOf, digitsOf}
-use Rattle.lines.specs.Lines.{space, colon}
+use Rattle.print.specs.Digits.{digitOf, digitsOf}
+
+-- the character between the ID of a frame and its data
+abbrev pub colon : ℕ
+colon = 0x3A
 
 -- the bytes of a UART reply as they are printed, each after one space
 abbrev pub spelled : List ℕ → List ℕ

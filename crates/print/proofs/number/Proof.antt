@@ -7,9 +7,9 @@ use Prim.Native.Nat.{ℕ, _+_}
 use lib.ListN.{take}
 use lib.Seq.{take-all}
 use Rattle.words.specs.Over.{put}
-use Rattle.lines.proofs.Spelling.{number-spelled}
-use Rattle.lines.proofs.print.number.Statement.{statement}
-use Rattle.lines.proofs.print.number.Tie as tie
+use Rattle.print.proofs.Spelling.{number-spelled}
+use Rattle.print.proofs.number.Statement.{statement}
+use Rattle.print.proofs.number.Tie as tie
 
 pub number-spec : {M : Type 1} → statement M
 number-spec =

@@ -7,10 +7,10 @@ use lib.ListN.{length, take}
 use lib.Seq.{take-all}
 use Rattle.words.specs.Over.{put, newer}
 use Rattle.words.proofs.Over.{over-none, length-over}
-use Rattle.lines.specs.Prints.{unspaced}
-use Rattle.lines.proofs.Printing.{unspaced-more}
-use Rattle.lines.proofs.print.unspaced.Statement.{statement}
-use Rattle.lines.proofs.print.unspaced.Tie as tie
+use Rattle.print.specs.Prints.{unspaced}
+use Rattle.print.proofs.Printing.{unspaced-more}
+use Rattle.print.proofs.unspaced.Statement.{statement}
+use Rattle.print.proofs.unspaced.Tie as tie
 
 abbrev Inv-loop : tie.InvT-loop
 Inv-loop bytes out₀ at n end₀ i₀ out end i = (i ≤ n) × (end ≡ at + i * 2) × (out ≡ put out₀ at (unspaced (take i bytes))) × (length out ≡ length out₀)

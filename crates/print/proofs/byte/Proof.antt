@@ -1,8 +1,8 @@
 -- The three characters are copied.
 use borrow.Author.Needs.{needs}
 use mathlib.Core.Path.{refl, _∙_}
-use Rattle.lines.proofs.print.byte.Statement.{statement}
-use Rattle.lines.proofs.print.byte.Tie as tie
+use Rattle.print.proofs.byte.Statement.{statement}
+use Rattle.print.proofs.byte.Tie as tie
 
 pub byte-spec : {M : Type 1} → statement M
 byte-spec =

@@ -3,8 +3,8 @@ use borrow.Author.Needs.{needs}
 use native.Mathlib.Omega.{arith}
 use mathlib.Core.Path.{refl}
 use borrow.Author.Tests.{lt-ltb, le-ltb}
-use Rattle.lines.proofs.digits.digit.Statement.{statement}
-use Rattle.lines.proofs.digits.digit.Tie as tie
+use Rattle.print.proofs.digit.Statement.{statement}
+use Rattle.print.proofs.digit.Tie as tie
 
 pub digit-spec : {M : Type 1} → statement M
 digit-spec =

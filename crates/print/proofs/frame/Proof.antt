@@ -4,9 +4,9 @@ use native.Mathlib.Omega.{arith}
 use mathlib.Core.Path.{_∙_}
 use Prim.Native.Nat.{_<_}
 use lib.ListN.{getD}
-use Rattle.lines.proofs.Printing.{frame-spelled, frame-length}
-use Rattle.lines.proofs.print.frame.Statement.{statement}
-use Rattle.lines.proofs.print.frame.Tie as tie
+use Rattle.print.proofs.Printing.{frame-spelled, frame-length}
+use Rattle.print.proofs.frame.Statement.{statement}
+use Rattle.print.proofs.frame.Tie as tie
 
 pub frame-spec : {M : Type 1} → statement M
 frame-spec =

@@ -8,10 +8,10 @@ use lib.Seq.{drop-length}
 use Rattle.words.specs.Over.{put, newer}
 use Rattle.words.proofs.Over.{over-none, length-over, put-then}
 use Rattle.frames.specs.Frames.{classic, frameBytes, frameIn}
-use Rattle.lines.specs.Prints.{spelledFrame, spelledFrames}
-use Rattle.lines.proofs.Printing.{turn}
-use Rattle.lines.proofs.print.frames.Statement.{statement}
-use Rattle.lines.proofs.print.frames.Tie as tie
+use Rattle.print.specs.Prints.{spelledFrame, spelledFrames}
+use Rattle.print.proofs.Printing.{turn}
+use Rattle.print.proofs.frames.Statement.{statement}
+use Rattle.print.proofs.frames.Tie as tie
 
 abbrev Inv-loop : tie.InvT-loop
 Inv-loop reply out₀ at n end₀ i₀ out end i = (i ≤ n) × (i % frameBytes classic ≡ 0) × (end ≤ at + 2 * i) × (end + length (spelledFrames (drop i reply)) ≡ at + length (spelledFrames reply)) × (put out end (spelledFrames (drop i reply)) ≡ put out₀ at (spelledFrames reply)) × (length out ≡ length out₀)

@@ -5,10 +5,10 @@ use Prim.Native.Nat.{_≤_, _-_, _+_, _*_}
 use lib.ListN.{length, take}
 use Rattle.words.specs.Over.{put, newer}
 use Rattle.words.proofs.Over.{over-none, length-over}
-use Rattle.lines.specs.Prints.{spelled}
-use Rattle.lines.proofs.Printing.{spelled-more}
-use Rattle.lines.proofs.print.bytes.Statement.{statement}
-use Rattle.lines.proofs.print.bytes.Tie as tie
+use Rattle.print.specs.Prints.{spelled}
+use Rattle.print.proofs.Printing.{spelled-more}
+use Rattle.print.proofs.bytes.Statement.{statement}
+use Rattle.print.proofs.bytes.Tie as tie
 
 abbrev Inv-loop : tie.InvT-loop
 Inv-loop reply n out₀ at end₀ i₀ out end i = (i ≤ n) × (end ≡ at + i * 3) × (out ≡ put out₀ at (spelled (take i reply))) × (length out ≡ length out₀)

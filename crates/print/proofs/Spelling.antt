@@ -1,36 +1,16 @@
--- Laws of digits: where they lie, and how a number is spelled in them.
+-- Laws of digits: how a number is spelled in them.
 use mathlib.Core.Path.{_≡_, refl, sym, ap, subst, _∙_}
-use mathlib.Core.Bool.{Bool, true, false, _&&_, _||_}
+use mathlib.Core.Bool.{Bool, true, false}
 use mathlib.Core.List.{List, [], _∷_, _++_}
 use Prim.Native.Nat.{ℕ, zero, suc, _+_, _-_, _*_, _/_, _%_, _^_, _≤_, _<_}
 use native.Mathlib.Nat.{not-suc-le-zero, le-of-suc-le-suc, pow-suc}
 use native.Mathlib.Omega.{arith}
-use lib.Dec.{T, leb, ltb, leb→le}
+use lib.Dec.{ltb}
 use lib.ListN.{length, length-append}
-use borrow.Author.Tests.{leb-true, lt-ltb, le-ltb}
+use borrow.Author.Tests.{lt-ltb, le-ltb}
 use Rattle.words.specs.Choice.{if_then_else_}
 use Rattle.io.specs.Digits.{digits, Fewest}
-use Rattle.words.proofs.Tests.{both-left, both-right}
-use Rattle.lines.specs.Digits.{isDigit, digitOf, decimalUpTo, decimal}
-
--- a digit lies among 0 to 9 or among A to F
-pub digit-lies {ℓ} : {P : Type ℓ} (c : ℕ) → T (isDigit c) → (48 ≤ c → c ≤ 57 → P) → (65 ≤ c → c ≤ 70 → P) → P
-digit-lies {P = P} c h low high = by-tests (leb 48 c) (leb c 57) refl refl h
-  where
-    letters : T (leb 65 c && leb c 70) → P
-    letters t = high (leb→le 65 c (both-left (leb 65 c) (leb c 70) t)) (leb→le c 70 (both-right (leb 65 c) (leb c 70) t))
-
-    by-tests : (a b : Bool) → leb 48 c ≡ a → leb c 57 ≡ b → T ((a && b) || (leb 65 c && leb c 70)) → P
-    by-tests true true e f t = low (leb-true 48 c e) (leb-true c 57 f)
-    by-tests true false e f t = letters t
-    by-tests false b e f t = letters t
-
--- one that is no letter is at least 0, and one that is past 9 is a letter
-pub low-digit : (c : ℕ) → T (isDigit c) → 48 ≤ c
-low-digit c h = digit-lies c h (λ a b. a) (λ a b. omega arith)
-
-pub letter : (c : ℕ) → T (isDigit c) → 57 < c → (65 ≤ c) × (c ≤ 70)
-letter c h k = digit-lies c h (λ a b. absurd (omega arith)) (λ a b. (a, b))
+use Rattle.print.specs.Digits.{digitOf, decimalUpTo, decimal}
 
 -- a number has no more digits than it counts
 ten-to : (m : ℕ) → m < 10 ^ m

@@ -1,25 +1,36 @@
 ghost use mathlib.Core.Path.{_≡_};
 ghost use mathlib.Core.List.{_∷_};
-ghost use Prim.Native.Nat.{_+_, _*_, _%_, _≤_};
+ghost use Prim.Native.Nat.{_+_, _*_, _%_, _≤_, _<_};
 ghost use lib.ListN.{length, take};
+ghost use Rattle.words.specs.Hex.{space, fieldCharacters};
 ghost use Rattle.words.specs.Over.{put};
 ghost use Rattle.frames.specs.Frames.{classic, frameBytes, frameIn};
-ghost use Rattle.lines.specs.Digits.{digitsOf, decimal};
-ghost use Rattle.lines.specs.Lines.{space, fieldCharacters};
-ghost use Rattle.lines.specs.Prints.{spelled, unspaced, spelledFrame, spelledFrames, numberRoom};
-use crate::digits;
-use crate::line::FIELD;
-use crate::line::SPACE;
+ghost use Rattle.print.specs.Digits.{digitOf, digitsOf, decimal};
+ghost use Rattle.print.specs.Prints.{spelled, unspaced, spelledFrame, spelledFrames, numberRoom};
+use words::FIELD;
+use words::SPACE;
 
 // The character between the ID of a frame and its data.
 const COLON: u8 = b':';
+
+// The hex digit of a value.
+pub fn digit(value: u8) -> u8
+    requires { ⌜ value < 16 ⌝ }
+    ensures { λ r. ⌜ r ≡ digitOf value ⌝ }
+{
+    if value < 10 {
+        b'0' + value
+    } else {
+        b'A' - 10 + value
+    }
+}
 
 // Prints a byte after one space.
 fn byte(value: u8, out: &mut [u8], at: usize)
     requires { ⌜ at + fieldCharacters ≤ length (now out) ⌝ }
     ensures { λ _. ⌜ now (out .exit) ≡ put (now (out .entry)) at (space ∷ digitsOf value) ⌝ }
 {
-    let text = [SPACE, digits::digit(value / 16), digits::digit(value % 16)];
+    let text = [SPACE, digit(value / 16), digit(value % 16)];
     words::copy(out, at, &text, 0, FIELD);
 }
 
@@ -58,7 +69,7 @@ fn unspaced(bytes: &[u8], out: &mut [u8], at: usize) -> usize
     let mut end = at;
     let mut i = 0;
     while i < n {
-        let text = [digits::digit(bytes[i] / 16), digits::digit(bytes[i] % 16)];
+        let text = [digit(bytes[i] / 16), digit(bytes[i] % 16)];
         words::copy(out, end, &text, 0, 2);
         end += 2;
         i += 1;
@@ -76,9 +87,9 @@ fn frame(frame: &[u8], out: &mut [u8], at: usize) -> usize
     let dlc = frame[2];
     let head = [
         SPACE,
-        digits::digit(high % 16),
-        digits::digit(low / 16),
-        digits::digit(low % 16),
+        digit(high % 16),
+        digit(low / 16),
+        digit(low % 16),
         COLON,
     ];
     words::copy(out, at, &head, 0, 5);

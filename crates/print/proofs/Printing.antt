@@ -11,14 +11,14 @@ use lib.ListN.{length, getD, take, drop, length-take, length-drop}
 use lib.Seq.{take-suc, take-all, length-take-le, drop-drop}
 use borrow.Author.Tests.{leb-true, leb-false}
 use Rattle.words.specs.Bytes.{number}
+use Rattle.words.specs.Hex.{space}
 use Rattle.words.proofs.Slices.{take-two}
 use Rattle.words.proofs.Pieces.{cut-more}
 use Rattle.frames.specs.Frames.{classic, frameBytes, frameIn, carried}
 use Rattle.words.specs.Over.{put}
 use Rattle.words.proofs.Over.{put-then}
-use Rattle.lines.specs.Digits.{digitOf, digitsOf}
-use Rattle.lines.specs.Lines.{space, colon}
-use Rattle.lines.specs.Prints.{spelled, unspaced, idDigits, spelledFrame, spelledFrames}
+use Rattle.print.specs.Digits.{digitOf, digitsOf}
+use Rattle.print.specs.Prints.{colon, spelled, unspaced, idDigits, spelledFrame, spelledFrames}
 
 -- a printed byte takes three characters
 pub length-spelled : (bs : List ℕ) → length (spelled bs) ≡ length bs * 3
