@@ -3,7 +3,7 @@ use Prim.Native.Nat.{ℕ, _+_, _*_, _≤_}
 use mathlib.Core.Path.{_≡_}
 use mathlib.Core.List.{List, map}
 use lib.Dec.{T}
-use lib.ListN.{length, take, drop}
+use lib.ListN.{length, drop}
 use Rattle.words.specs.Over.{put}
 use Rattle.boot.specs.Calls.{Byte}
 use Rattle.boot.specs.Promise.{stateOf}
@@ -11,9 +11,7 @@ use Rattle.boot.specs.declared.Session.{Session}
 use Rattle.lines.specs.Lines.{areFields, fields}
 use Rattle.print.specs.Prints.{numberRoom}
 use Rattle.answers.specs.Answers.{deskRoom, tells}
-use Rattle.answers.specs.Desk as D
 use Rattle.answers.specs.Told.{Told}
-use Rattle.answers.specs.declared.Desk.{Desk}
 
 -- what is told stands in a text from one place to another, the text is else unchanged, and a state is as told
 pub record Tells {A : Type 0} (t : Told A) (at : ℕ) (before : List ℕ) (until : ℕ) (after : List ℕ) (now : A) : Type 0 where
@@ -35,11 +33,3 @@ noticeRoom = numberRoom + 3
 -- the most characters that the answer to a line of n characters may need: for each field a whole reply, a byte in three characters
 abbrev pub answerRoom : ℕ → ℕ
 answerRoom n = deskRoom * n + noticeRoom
-
--- the desk of the code's numbers and what is lent to it
-abbrev pub deskOf : Desk → List ℕ → List ℕ → List ℕ → List ℕ → D.Desk
-deskOf d line flash sram usd = record {
-  state = stateOf (d .session) flash sram usd;
-  lines = d .lines;
-  line = take (d .kept) line;
-}

@@ -1,5 +1,4 @@
 pub mod answer;
-pub mod hear;
 
 use boot::Session;
 
@@ -13,12 +12,4 @@ pub struct Answered {
 pub struct Passed {
     pub session: Session,
     pub characters: usize,
-}
-
-// What desk knows of its host between two characters: the session, how many lines were answered, how many characters are kept of the line that has begun, and where the text ends.
-pub struct Desk {
-    pub session: Session,
-    pub lines: u64,
-    pub kept: usize,
-    pub end: usize,
 }

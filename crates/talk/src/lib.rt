@@ -3,14 +3,14 @@ ghost use mathlib.Core.Path.{_≡_};
 ghost use Prim.Native.Nat.{_+_, _^_, _≤_, _<_};
 ghost use lib.ListN.{length};
 ghost use Rattle.memories.specs.Memories.{freshMemories};
-ghost use Rattle.answers.specs.Desk.{keptCharacters};
+ghost use Rattle.hearing.specs.Desk.{keptCharacters};
 ghost use Rattle.talk.specs.Turns.{readCharacters, outCharacters, Ready};
-use answers::Desk;
-use answers::hear::KEPT_CHARACTERS;
-use answers::hear::finish;
-use answers::hear::hear;
 use board::Board;
 use boot::Session;
+use hearing::Desk;
+use hearing::KEPT_CHARACTERS;
+use hearing::finish;
+use hearing::hear;
 use memories::ERASED;
 
 // How many characters are read at most at once.

@@ -8,10 +8,10 @@ use lib.ListN.{take}
 use lib.Seq.{length-take-le}
 use Rattle.boot.specs.Calls.{State}
 use Rattle.boot.specs.Promise.{stateOf}
 use Rattle.answers.specs.Answers.{answer}
-use Rattle.answers.proofs.Hearing.{told-as}
-use Rattle.answers.proofs.hear.end_line.Statement.{statement}
-use Rattle.answers.proofs.hear.end_line.Tie as tie
+use Rattle.hearing.proofs.Hearing.{told-as}
+use Rattle.hearing.proofs.end_line.Statement.{statement}
+use Rattle.hearing.proofs.end_line.Tie as tie
 
 pub end-line-spec : {M : Type 1} → statement M
 end-line-spec =

@@ -5,7 +5,7 @@ use Prim.Native.String.{String, len, charAt}
 use mathlib.Core.Path.{_≡_}
 use mathlib.Core.List.{List, [], _∷_, _++_}
 use Rattle.lines.specs.Lines.{lineFeed}
-use Rattle.answers.specs.Desk.{prints}
+use Rattle.hearing.specs.Desk.{prints}
 
 -- n characters of a text, from place i on
 abbrev pub charactersFrom : String → ℕ → ℕ → List ℕ

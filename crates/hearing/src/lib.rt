@@ -1,16 +1,25 @@
 ghost use mathlib.Core.Path.{_≡_};
 ghost use Prim.Native.Nat.{_+_, _*_, _^_, _≤_, _<_};
 ghost use lib.ListN.{length, take};
 ghost use Rattle.answers.specs.Answers.{deskRoom};
-ghost use Rattle.answers.specs.Desk.{keptCharacters, keep, lineEnds, hears, inputEnds};
-ghost use Rattle.answers.specs.Promise.{Tells, answerRoom, deskOf};
-use crate::Desk;
-use crate::answer;
-use crate::answer::LINE_FEED;
+ghost use Rattle.hearing.specs.Desk.{keptCharacters, keep, lineEnds, hears, inputEnds};
+ghost use Rattle.answers.specs.Promise.{Tells, answerRoom};
+ghost use Rattle.hearing.specs.Promise.{deskOf};
+use answers::answer;
+use answers::answer::LINE_FEED;
+use boot::Session;
 use lines::line::MOST_CHARACTERS;
 
 // What is kept of a line: one character more than it may have tells that it is too long.
 pub const KEPT_CHARACTERS: usize = MOST_CHARACTERS + 1;
+
+// What desk knows of its host between two characters: the session, how many lines were answered, how many characters are kept of the line that has begun, and where the text ends.
+pub struct Desk {
+    pub session: Session,
+    pub lines: u64,
+    pub kept: usize,
+    pub end: usize,
+}
 
 // Keeps a character of the line that has begun, and tells how many are kept.
 fn keep(line: &mut [u8], kept: usize, character: u8) -> usize

@@ -5,13 +5,13 @@ use Prim.Native.Nat.{_≤_, _-_, _+_, _*_}
 use lib.ListN.{length, drop}
 use lib.Seq.{drop-length}
 use borrow.Author.Tests.{eq-eqb, ne-eqb}
 use Rattle.answers.specs.Answers.{deskRoom}
-use Rattle.answers.specs.Desk.{keptCharacters, lineEnds, hears}
-use Rattle.answers.specs.Promise.{deskOf}
+use Rattle.hearing.specs.Desk.{keptCharacters, lineEnds, hears}
+use Rattle.hearing.specs.Promise.{deskOf}
 use Rattle.answers.proofs.Telling.{Continues, all-left, one-told, none-left}
-use Rattle.answers.proofs.Hearing.{hears-end, hears-kept}
-use Rattle.answers.proofs.hear.hear.Statement.{statement}
-use Rattle.answers.proofs.hear.hear.Tie as tie
+use Rattle.hearing.proofs.Hearing.{hears-end, hears-kept}
+use Rattle.hearing.proofs.hear.Statement.{statement}
+use Rattle.hearing.proofs.hear.Tie as tie
 
 abbrev Inv-loop : tie.InvT-loop
 Inv-loop text line₀ flash₀ sram₀ usd₀ out₀ n here₀ i₀ line flash sram usd out here i = (i ≤ n) × (length line ≡ keptCharacters) × (here .kept ≤ keptCharacters) × (here .lines ≤ here₀ .lines + i) × (here .end + deskRoom * (here .kept + (n - i)) ≤ length out₀) × Continues (hears (drop i text) (deskOf here line flash sram usd)) (here .end) out (hears text (deskOf here₀ line₀ flash₀ sram₀ usd₀)) (here₀ .end) out₀ × (length flash ≡ length flash₀) × (length sram ≡ length sram₀) × (length usd ≡ length usd₀) × (length out ≡ length out₀)

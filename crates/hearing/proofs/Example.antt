@@ -12,8 +12,8 @@ use Rattle.boot.specs.Decide as BD
 use Rattle.boot.specs.Causes as BC
 use Rattle.boot.specs.Calls as BK
 use Rattle.lines.specs.Lines.{kindOf}
 use Rattle.answers.specs.Answers.{tell, tells, answerBy, answer}
-use Rattle.answers.specs.Example.{Example}
+use Rattle.hearing.specs.Example.{Example}
 
 pub example : Example
 unfolding kindOf tell tells answerBy answer BK.call BK.perform BK.sent BK.decide BK.causeFor BC.causeOf BD.connected BD.decideByte BD.decideFrame BS.after BS.sound UC.obeyed UC.commanded UC.complete UC.heard S.says Q.unlessProtected D.if_gives_else_ E.effect U.writeProtected R.placeOf

@@ -13,9 +13,9 @@ use Rattle.words.specs.Choice.{if_then_else_}
 use Rattle.memories.specs.Memories.{freshMemories}
 use Rattle.boot.specs.Calls.{State, powered}
 use Rattle.lines.specs.Lines.{lineFeed}
 use Rattle.answers.specs.Told.{Told, _then_}
 use Rattle.answers.specs.Answers.{answer, answerBy}
-use Rattle.answers.specs.Desk.{linesFrom, answersFrom, prints, Desk, freshDesk, keptCharacters, keep, lineEnds, kept, hears, inputEnds}
+use Rattle.hearing.specs.Desk.{linesFrom, answersFrom, prints, Desk, freshDesk, keptCharacters, keep, lineEnds, kept, hears, inputEnds}
 use Rattle.lines.proofs.Lines.{kind-beyond}
 
 -- ---- cutting

@@ -6,9 +6,9 @@ use lib.Seq.{length-take-le}
 use borrow.Author.Tests.{lt-ltb, le-ltb}
 use Rattle.words.specs.Over.{newer}
 use Rattle.words.proofs.Over.{over-none}
-use Rattle.answers.specs.Desk.{inputEnds}
-use Rattle.answers.proofs.hear.finish.Statement.{statement}
-use Rattle.answers.proofs.hear.finish.Tie as tie
+use Rattle.hearing.specs.Desk.{inputEnds}
+use Rattle.hearing.proofs.finish.Statement.{statement}
+use Rattle.hearing.proofs.finish.Tie as tie
 
 pub finish-spec : {M : Type 1} → statement M
 unfolding inputEnds

@@ -1,9 +1,9 @@
 -- By whether there is room.
 use borrow.Author.Needs.{needs}
 use native.Mathlib.Omega.{arith}
-use Rattle.answers.proofs.Hearing.{kept-stored, kept-full}
-use Rattle.answers.proofs.hear.keep.Statement.{statement}
-use Rattle.answers.proofs.hear.keep.Tie as tie
+use Rattle.hearing.proofs.Hearing.{kept-stored, kept-full}
+use Rattle.hearing.proofs.keep.Statement.{statement}
+use Rattle.hearing.proofs.keep.Tie as tie
 
 pub keep-spec : {M : Type 1} → statement M
 keep-spec =

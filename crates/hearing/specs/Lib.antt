@@ -1,0 +1,3 @@
+pub mod Desk
+pub mod Promise
+pub mod Example
