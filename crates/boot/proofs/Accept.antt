@@ -11,7 +11,7 @@ use Rattle.memories.specs.Effects.{effect}
 use Rattle.command.specs.Progress.{progressAt, stagedWith}
 use Rattle.command.specs.Says.{says, Said}
 use Rattle.command.specs.declared.Decision.{Decision}
-use Rattle.command.proofs.Good.{Good}
+use Rattle.rules.proofs.Good.{Good}
 use Rattle.can.specs.Steps as C
 use Rattle.can.specs.Conversation as CC
 use Rattle.frames.specs.Frames.{classic, frameIn, frameOf, isFrame, carried, framed}

@@ -8,7 +8,7 @@ use Rattle.board.specs.Quantities.{addressBytes}
 use Rattle.command.specs.Progress.{stagedWith}
 use Rattle.command.specs.declared.Decision.{Decision}
 use Rattle.command.proofs.Holds.{Holds, either, split}
-use Rattle.command.proofs.Good.{Good, told}
+use Rattle.rules.proofs.Good.{Good, told}
 use Rattle.uart.specs.Steps as U
 use Rattle.uart.specs.Conversation as UC
 use Rattle.uart.proofs.Good.{complete-good}

@@ -11,12 +11,13 @@ use Rattle.command.specs.declared.Command.the-variants.{GetCommands, GetVersion
 use Rattle.command.specs.declared.Decision.{Decision}
 use Rattle.command.specs.declared.Lookup.{Lookup}
 use Rattle.command.specs.declared.Lookup.the-variants.{Known, Unknown}
-use Rattle.command.specs.declared.Selector.{Selector}
-use Rattle.command.specs.declared.Selector.the-variants.{Listed, Special, Impossible}
 use Rattle.command.specs.declared.Verdict.{Verdict}
 use Rattle.command.specs.declared.Verdict.the-variants.{Fine, No}
-use Rattle.command.proofs.Holds.{Holds, either, split, judged-either, unless-either}
-use Rattle.command.proofs.Good.{Good, told, refusal, reading-good, writing-good, erasing-good, protecting-good, jumping-good, summing-good}
+use Rattle.command.proofs.Holds.{Holds, either, split, judged-either}
+use Rattle.rules.specs.declared.Selector.{Selector}
+use Rattle.rules.specs.declared.Selector.the-variants.{Listed, Special, Impossible}
+use Rattle.rules.proofs.Unless.{unless-either}
+use Rattle.rules.proofs.Good.{Good, told, refusal, reading-good, writing-good, erasing-good, protecting-good, jumping-good, summing-good}
 use Rattle.can.specs.Conversation.{dlcFits, countSent, erasedOrNot, selected, obeyed, commanded, gathering, unlessExtra, decided, heard}
 use Rattle.frames.specs.Frames.{Frame, carried, counted}
 use Rattle.can.specs.Steps.{expects, numbersIn}

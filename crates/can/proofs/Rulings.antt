@@ -11,12 +11,12 @@ use Rattle.board.specs.declared.Region.the-variants.{Flash}
 use Rattle.memories.specs.Memories.{freshUsd}
 use Rattle.memories.specs.declared.Change.the-variants.{Write, EraseAll, EraseSectors, ProtectOnly}
 use Rattle.command.specs.Decision.{if_gives_else_, answer, alter, nack, judged}
-use Rattle.command.specs.Rules as Q
 use Rattle.command.specs.declared.Decision.{Decision}
 use Rattle.command.specs.declared.Next.the-variants.{Reset, Gather, GoIdle, SetSpeed, Enter, EnterAt}
 use Rattle.command.specs.declared.Reply.the-variants.{Silence, Ack, AckAck, AckNack, Data, Crc}
 use Rattle.command.specs.declared.Why.the-variants.{BadComplement, UnknownCommand, AccessProtected, OtherFrame, BadRange, BadSector, UnsupportedErase, BadSpeed}
-use Rattle.command.proofs.Rulings.{Ruling, _is_, decisions, papers, lockedUsd}
+use Rattle.rules.specs.Rules as Q
+use Rattle.rules.proofs.Rulings.{Ruling, _is_, decisions, papers, lockedUsd}
 use Rattle.can.specs.Conversation as C
 use Rattle.frames.specs.Frames.{classic, frameIn, framed}
 use Rattle.can.specs.Steps.{stepNo}

@@ -13,7 +13,6 @@ use Rattle.memories.specs.declared.Change.the-variants.{EraseAll}
 use Rattle.command.specs.Commands.{code, canCommands, lookUp}
 use Rattle.command.specs.Decision.{if_gives_else_, answer, alter, nack, judged}
 use Rattle.command.specs.Progress.{Progress, progressAt, stagedWith, short, overfull}
-use Rattle.command.specs.Rules.{unlessProtected, telling, reading, writeVerdict, writing, selectorOf, erasing, eraseAllVerdict, protecting, releasing, locking, unlocking, resetting, jumping, summing}
 use Rattle.command.specs.declared.Command.{Command}
 use Rattle.command.specs.declared.Command.the-variants.{GetCommands, GetVersion, GetDeviceId, ReadMemory, Jump, WriteMemory, Erase, ProgramProtect, ProgramUnprotect, AccessProtect, AccessUnprotect, FirmwareCrc, ResetDevice, Speed}
 use Rattle.command.specs.declared.Decision.{Decision}
@@ -23,11 +22,12 @@ use Rattle.command.specs.declared.Next.the-variants.{Gather, GoIdle, SetSpeed, 
 use Rattle.command.specs.Says.{fixed}
 use Rattle.command.specs.declared.Reply.{Reply}
 use Rattle.command.specs.declared.Reply.the-variants.{Silence, Ack, AckAck, AckNack, Commands, Version, DeviceId}
-use Rattle.command.specs.declared.Selector.{Selector}
-use Rattle.command.specs.declared.Selector.the-variants.{Listed, Special, Impossible}
 use Rattle.command.specs.declared.Verdict.{Verdict}
 use Rattle.command.specs.declared.Verdict.the-variants.{Fine, No}
 use Rattle.command.specs.declared.Why.the-variants.{BadComplement, UnknownCommand, OtherFrame, BadRange, BadSpeed}
+use Rattle.rules.specs.Rules.{unlessProtected, telling, reading, writeVerdict, writing, selectorOf, erasing, eraseAllVerdict, protecting, releasing, locking, unlocking, resetting, jumping, summing}
+use Rattle.rules.specs.declared.Selector.{Selector}
+use Rattle.rules.specs.declared.Selector.the-variants.{Listed, Special, Impossible}
 use Rattle.frames.specs.Frames.{Frame, classic, carried, counted}
 use Rattle.can.specs.Steps.{stepNo, expectedForNumbers, numbersIn}
 use Rattle.can.specs.declared.Step.{Step}

@@ -80,7 +80,7 @@ fn write_frame(
         expected,
         id,
         carried.len(),
-        command::write::write(usd, Address(address), expected),
+        rules::write::write(usd, Address(address), expected),
     )
 }
 
@@ -96,7 +96,7 @@ fn erase_frame(
     requires { ⌜ (taken < expected) × (expected ≤ expectedForNumbers (sectors .count)) × (length (now bytes) ≡ stagedBytes) × (length (now usd) ≡ extentOf Usd .bytes) × (length (now carried) ≤ classic .largest) ⌝ }
     ensures { λ r. ⌜ r ≡ decided Step.EraseList (progressAt taken expected 0 (now (bytes .entry))) (now (usd .entry)) (frameOf id (now (carried .entry))) ⌝ }
 {
-    let done = command::erase::erase(usd, bytes, expected / 2);
+    let done = rules::erase::erase(usd, bytes, expected / 2);
     gathering(
         code::ERASE,
         taken,
@@ -112,7 +112,7 @@ fn protect_frame(taken: usize, expected: usize, bytes: &[u8], id: u16, carried: 
     requires { ⌜ (taken < expected) × (expected ≤ largestCount) × (length (now bytes) ≡ stagedBytes) × (length (now carried) ≤ classic .largest) ⌝ }
     ensures { λ r. ⌜ r ≡ decided Step.ProtectList (progressAt taken expected 0 (now (bytes .entry))) [] (frameOf id (now (carried .entry))) ⌝ }
 {
-    let done = command::protect::protect(bytes, expected);
+    let done = rules::protect::protect(bytes, expected);
     gathering(
         code::PROGRAM_PROTECT,
         taken,

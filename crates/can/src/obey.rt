@@ -14,13 +14,13 @@ use command::Decision;
 use command::Lookup;
 use command::Next;
 use command::Reply;
-use command::Selector;
 use command::Verdict;
 use command::Why;
-use command::at_once;
 use command::code;
-use command::sent;
 use memories::Change;
+use rules::Selector;
+use rules::at_once;
+use rules::sent;
 
 // The DLC of an address with a count of one byte, and of two.
 const ADDRESS_AND_COUNT: usize = 5;
@@ -65,7 +65,7 @@ fn read_memory(carried: &[u8]) -> Decision
     requires { ⌜ T (dlcFits ReadMemory (length (now carried))) ⌝ }
     ensures { λ r. ⌜ r ≡ obeyed [] (now (carried .entry)) ReadMemory ⌝ }
 {
-    command::read::read(
+    rules::read::read(
         sent::address_in(carried),
         sent::count_of(carried[sent::ADDRESS_BYTES]),
     )
@@ -79,7 +79,7 @@ fn write_memory(usd: &[u8], carried: &[u8]) -> Decision
     let address = sent::address_in(carried);
     let x = sent::count_of(carried[sent::ADDRESS_BYTES]);
     command::judged(
-        command::write::write_verdict(usd, address, x),
+        rules::write::write_verdict(usd, address, x),
         command::answer(
             Reply::Ack,
             Next::EnterAt(Step::WriteData.number(), x, address.0),
@@ -108,7 +108,7 @@ fn selected(usd: &[u8], selector: Selector) -> Decision
             Next::Enter(Step::EraseList.number(), 2 * sent.count()),
         ),
         Selector::Special(number) => {
-            erased_or_not(command::erase::erase_all_verdict(usd, number as u32))
+            erased_or_not(rules::erase::erase_all_verdict(usd, number as u32))
         }
         Selector::Impossible => command::nack(Why::BadRange),
     }
@@ -121,7 +121,7 @@ fn erase(usd: &[u8], carried: &[u8]) -> Decision
 {
     selected(
         usd,
-        command::erase::selector_of(words::number2(carried[0], carried[1])),
+        rules::erase::selector_of(words::number2(carried[0], carried[1])),
     )
 }
 
@@ -141,7 +141,7 @@ fn firmware_crc(carried: &[u8]) -> Decision
     requires { ⌜ T (dlcFits FirmwareCrc (length (now carried))) ⌝ }
     ensures { λ r. ⌜ r ≡ obeyed [] (now (carried .entry)) FirmwareCrc ⌝ }
 {
-    command::sum::sum(
+    rules::sum::sum(
         sent::address_in(carried),
         sent::long_count(
             carried[sent::ADDRESS_BYTES],
@@ -173,7 +173,7 @@ fn obeyed(usd: &[u8], carried: &[u8], command: Command) -> Decision
         Command::GetVersion => at_once::tell(Reply::Version),
         Command::GetDeviceId => at_once::tell(Reply::DeviceId),
         Command::ReadMemory => read_memory(carried),
-        Command::Jump => command::jump::jump(sent::address_in(carried)),
+        Command::Jump => rules::jump::jump(sent::address_in(carried)),
         Command::WriteMemory => write_memory(usd, carried),
         Command::Erase => erase(usd, carried),
         Command::ProgramProtect => program_protect(carried),
@@ -196,7 +196,7 @@ fn commanded(usd: &[u8], number: u8, carried: &[u8]) -> Decision
     match lookup {
         Lookup::Known(command) => {
             if right {
-                command::protected::unless_protected(usd, command, obeyed(usd, carried, command))
+                rules::protected::unless_protected(usd, command, obeyed(usd, carried, command))
             } else {
                 command::nack(Why::BadComplement)
             }

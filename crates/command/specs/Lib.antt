@@ -2,5 +2,4 @@ pub mod Commands
 pub mod Why
 pub mod Decision
 pub mod Progress
-pub mod Rules
 pub mod Says

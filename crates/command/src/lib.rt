@@ -1,17 +1,8 @@
-pub mod at_once;
 pub mod code;
-pub mod erase;
-pub mod jump;
-pub mod protect;
 pub mod protected;
-pub mod read;
-pub mod sent;
-pub mod sum;
-pub mod write;
 
 ghost use mathlib.Core.Path.{_≡_};
 ghost use Rattle.command.specs.Decision.{if_gives_else_, answer, alter, nack, judged};
-use board::LessOne;
 use board::Region;
 use memories::Change;
 
@@ -61,15 +52,6 @@ pub enum Why {
 pub enum Verdict {
     Fine,
     No(Why),
-}
-
-// What the two selector bytes of an erase ask for.
-pub enum Selector {
-    // A list of so many sectors.
-    Listed(LessOne),
-    // All flash, or an erase that this board has not.
-    Special(u16),
-    Impossible,
 }
 
 // What is answered; bytes of a memory are named, not held.

@@ -11,7 +11,6 @@ use Rattle.memories.specs.declared.Change.{Change}
 use Rattle.memories.specs.declared.Change.the-variants.{Nothing, Write, EraseAll, EraseSectors, ProtectOnly, Release, Lock, Unlock}
 use Rattle.command.specs.Decision.{if_gives_else_, answer, nack}
 use Rattle.command.specs.Progress.{Progress}
-use Rattle.command.specs.Rules.{readAt, reading, writeAt, writing, erasing, protecting, jumping, sumAt, summing}
 use Rattle.command.specs.declared.Command.{Command}
 use Rattle.command.specs.declared.Command.the-variants.{GetCommands, GetVersion, GetDeviceId, ReadMemory, Jump, WriteMemory, Erase, ProgramProtect, ProgramUnprotect, AccessProtect, AccessUnprotect, FirmwareCrc, ResetDevice, Speed}
 use Rattle.command.specs.declared.Decision.{Decision}
@@ -19,11 +18,12 @@ use Rattle.command.specs.declared.Lookup.{Lookup}
 use Rattle.command.specs.declared.Lookup.the-variants.{Known, Unknown}
 use Rattle.command.specs.declared.Next.{Next}
 use Rattle.command.specs.declared.Next.the-variants.{Stay, Reset, Gather, GoIdle, SetSpeed, Enter, EnterAt, Run}
-use Rattle.command.specs.declared.Selector.{Selector}
-use Rattle.command.specs.declared.Selector.the-variants.{Listed, Special, Impossible}
 use Rattle.command.specs.declared.Verdict.{Verdict}
 use Rattle.command.specs.declared.Verdict.the-variants.{Fine, No}
 use Rattle.command.specs.declared.Why.{Why}
+use Rattle.rules.specs.Rules.{readAt, reading, writeAt, writing, erasing, protecting, jumping, sumAt, summing}
+use Rattle.rules.specs.declared.Selector.{Selector}
+use Rattle.rules.specs.declared.Selector.the-variants.{Listed, Special, Impossible}
 use Rattle.uart.specs.Conversation as UC
 use Rattle.uart.specs.declared.Step as US
 use Rattle.can.specs.Conversation as CC
@@ -35,7 +35,8 @@ use Rattle.boot.specs.Calls.{Input, Power, Byte, Framed, decide}
 use Rattle.boot.specs.declared.Carrier.{Carrier}
 use Rattle.boot.specs.declared.Session.{Session}
 use Rattle.theorems.specs.Failures.{refuses}
-use Rattle.command.proofs.Holds.{Holds, either, judged-either, unless-either}
+use Rattle.command.proofs.Holds.{Holds, either, judged-either}
+use Rattle.rules.proofs.Unless.{unless-either}
 
 -- no memory changes
 abbrev pub isNothing : Change → Bool

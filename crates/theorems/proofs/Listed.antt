@@ -15,7 +15,6 @@ use Rattle.memories.specs.declared.Change.{Change}
 use Rattle.memories.specs.declared.Change.the-variants.{EraseSectors, ProtectOnly}
 use Rattle.command.specs.Decision.{alter, judged}
 use Rattle.command.specs.Progress.{Progress, stagedWith}
-use Rattle.command.specs.Rules.{eraseVerdict, erasing, protectVerdict, protecting}
 use Rattle.command.specs.declared.Decision.{Decision}
 use Rattle.command.specs.declared.Next.{Next}
 use Rattle.command.specs.declared.Reply.the-variants.{Ack}
@@ -23,6 +22,7 @@ use Rattle.command.specs.declared.Verdict.{Verdict}
 use Rattle.command.specs.declared.Verdict.the-variants.{Fine, No}
 use Rattle.command.specs.declared.Why.{Why}
 use Rattle.command.specs.declared.Why.the-variants.{BadSector, WriteProtected}
+use Rattle.rules.specs.Rules.{eraseVerdict, erasing, protectVerdict, protecting}
 use Rattle.uart.specs.Steps as U
 use Rattle.uart.specs.Conversation as UC
 use Rattle.uart.specs.declared.Step as US

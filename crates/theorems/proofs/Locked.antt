@@ -16,7 +16,6 @@ use Rattle.memories.specs.declared.Change.the-variants.{Nothing, Write, EraseAl
 use Rattle.command.specs.Commands.{protected}
 use Rattle.command.specs.Decision.{answer, nack}
 use Rattle.command.specs.Progress.{Progress}
-use Rattle.command.specs.Rules.{unlocking, sumAt, summing}
 use Rattle.command.specs.declared.Command.{Command}
 use Rattle.command.specs.declared.Command.the-variants.{GetCommands, GetVersion, GetDeviceId, ReadMemory, Jump, WriteMemory, Erase, ProgramProtect, ProgramUnprotect, AccessProtect, AccessUnprotect, FirmwareCrc, ResetDevice, Speed}
 use Rattle.command.specs.declared.Decision.{Decision}
@@ -27,6 +26,7 @@ use Rattle.command.specs.declared.Next.the-variants.{Stay, Reset, Gather, GoIdl
 use Rattle.command.specs.declared.Reply.{Reply}
 use Rattle.command.specs.declared.Reply.the-variants.{Silence, Ack, AckAck, Nack, AckNack, Commands, Version, DeviceId, Data, Crc}
 use Rattle.command.specs.declared.Why.{Why}
+use Rattle.rules.specs.Rules.{unlocking, sumAt, summing}
 use Rattle.uart.specs.Steps as U
 use Rattle.uart.specs.Conversation as UC
 use Rattle.uart.specs.declared.Step as US
@@ -42,7 +42,8 @@ use Rattle.boot.specs.declared.Carrier.the-variants.{None, Uart, Can, Running}
 use Rattle.boot.specs.declared.Session.{Session}
 use Rattle.theorems.specs.Failures.{reads}
 use Rattle.theorems.specs.Secrecy.{unlocks}
-use Rattle.command.proofs.Holds.{Holds, either, split, unless-locked}
+use Rattle.command.proofs.Holds.{Holds, either, split}
+use Rattle.rules.proofs.Unless.{unless-locked}
 
 -- ---- sessions inside no protected command
 

@@ -26,8 +26,8 @@ use Rattle.memories.specs.declared.Change.the-variants.{Nothing, Write, EraseAl
 use Rattle.memories.proofs.Memories.{proper-length}
 use Rattle.memories.proofs.Written.{written-at}
 use Rattle.command.specs.Progress.{Progress, stagedWith}
-use Rattle.command.specs.Rules.{writeAt, writing}
 use Rattle.command.specs.declared.Decision.{Decision}
+use Rattle.rules.specs.Rules.{writeAt, writing}
 use Rattle.uart.specs.Steps as U
 use Rattle.uart.specs.Conversation as UC
 use Rattle.uart.specs.declared.Step as US

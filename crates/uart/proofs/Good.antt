@@ -11,10 +11,11 @@ use Rattle.command.specs.declared.Command.the-variants.{GetCommands, GetVersion
 use Rattle.command.specs.declared.Decision.{Decision}
 use Rattle.command.specs.declared.Lookup.{Lookup}
 use Rattle.command.specs.declared.Lookup.the-variants.{Known, Unknown}
-use Rattle.command.specs.declared.Selector.{Selector}
-use Rattle.command.specs.declared.Selector.the-variants.{Listed, Special, Impossible}
-use Rattle.command.proofs.Holds.{Holds, either, judged-either, unless-either}
-use Rattle.command.proofs.Good.{Good, told, refusal, reading-good, writing-good, erasing-good, protecting-good, jumping-good, summing-good}
+use Rattle.command.proofs.Holds.{Holds, either, judged-either}
+use Rattle.rules.specs.declared.Selector.{Selector}
+use Rattle.rules.specs.declared.Selector.the-variants.{Listed, Special, Impossible}
+use Rattle.rules.proofs.Unless.{unless-either}
+use Rattle.rules.proofs.Good.{Good, told, refusal, reading-good, writing-good, erasing-good, protecting-good, jumping-good, summing-good}
 use Rattle.uart.specs.Conversation.{obeyed, commanded, addressed, keptIf, selected, complete}
 use Rattle.uart.specs.Steps.{expects, countIn, numbersIn}
 use Rattle.uart.specs.declared.Step.{Step}

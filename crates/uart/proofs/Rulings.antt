@@ -10,12 +10,12 @@ use Rattle.board.specs.declared.Region.the-variants.{Flash}
 use Rattle.memories.specs.Memories.{freshUsd}
 use Rattle.memories.specs.declared.Change.the-variants.{Write, EraseAll, EraseSectors, ProtectOnly, Lock, Unlock}
 use Rattle.command.specs.Decision.{if_gives_else_, answer, alter, nack, judged}
-use Rattle.command.specs.Rules as Q
 use Rattle.command.specs.declared.Decision.{Decision}
 use Rattle.command.specs.declared.Next.the-variants.{Reset, GoIdle, Enter, EnterAt, Run}
 use Rattle.command.specs.declared.Reply.the-variants.{Silence, Ack, AckAck, Data, Crc}
 use Rattle.command.specs.declared.Why.the-variants.{BadComplement, UnknownCommand, AccessProtected, BadChecksum, BadAddress, BadRange, UnsupportedErase}
-use Rattle.command.proofs.Rulings.{Ruling, _is_, decisions, papers, lockedUsd}
+use Rattle.rules.specs.Rules as Q
+use Rattle.rules.proofs.Rulings.{Ruling, _is_, decisions, papers, lockedUsd}
 use Rattle.uart.specs.Conversation as C
 use Rattle.uart.specs.Steps.{stepNo}
 use Rattle.uart.specs.declared.Step.{Step}

@@ -4,10 +4,10 @@ ghost use Rattle.board.specs.Quantities.{addressBytes};
 ghost use Rattle.board.specs.Regions.{known, sectorStart};
 ghost use Rattle.memories.specs.Effects.{stagedBytes};
 ghost use Rattle.command.specs.Decision.{if_gives_else_, answer, nack};
-ghost use Rattle.command.specs.Rules.{jumping};
 ghost use Rattle.command.specs.declared.Next.the-variants.{EnterAt};
 ghost use Rattle.command.specs.declared.Reply.the-variants.{Ack};
 ghost use Rattle.command.specs.declared.Why.the-variants.{BadAddress, BadChecksum};
+ghost use Rattle.rules.specs.Rules.{jumping};
 ghost use Rattle.uart.specs.Steps.{stepNo};
 ghost use Rattle.uart.specs.Conversation.{checks, addressed, keptIf};
 use crate::Step;
@@ -17,7 +17,7 @@ use command::Decision;
 use command::Next;
 use command::Reply;
 use command::Why;
-use command::sent;
+use rules::sent;
 
 // What is decided on an address whose XOR, the fifth byte, is right.
 fn addressed(bytes: &[u8], decision: Decision) -> Decision
@@ -68,5 +68,5 @@ pub fn jump_address(bytes: &[u8]) -> Decision
     requires { ⌜ length (now bytes) ≡ stagedBytes ⌝ }
     ensures { λ r. ⌜ r ≡ addressed jumping (now (bytes .entry)) ⌝ }
 {
-    addressed(bytes, command::jump::jump(sent::address_in(bytes)))
+    addressed(bytes, rules::jump::jump(sent::address_in(bytes)))
 }

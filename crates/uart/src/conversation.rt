@@ -20,10 +20,10 @@ use board::Address;
 use command::Decision;
 use command::Next;
 use command::Reply;
-use command::Selector;
 use command::Why;
-use command::sent;
 use memories::Change;
+use rules::Selector;
+use rules::sent;
 
 // The byte with which the checksum of Firmware CRC's count begins.
 const CRC_CHECK: u8 = 0xFF;
@@ -77,7 +77,7 @@ fn read_ends(address: u32, bytes: &[u8]) -> Decision
 {
     command::accept_if(
         checksum::complemented(bytes),
-        command::read::read(Address(address), sent::count_of(bytes[0])),
+        rules::read::read(Address(address), sent::count_of(bytes[0])),
         Why::BadChecksum,
     )
 }
@@ -90,7 +90,7 @@ fn write_ends(usd: &[u8], expected: usize, address: u32, bytes: &[u8]) -> Decisi
     let x = expected - 1;
     command::accept_if(
         checksum::checks_counted(bytes, x),
-        command::write::write(usd, Address(address), x),
+        rules::write::write(usd, Address(address), x),
         Why::BadChecksum,
     )
 }
@@ -100,7 +100,7 @@ fn selector_ends(bytes: &[u8]) -> Decision
     requires { ⌜ length (now bytes) ≡ stagedBytes ⌝ }
     ensures { λ r. ⌜ r ≡ complete Step.EraseSelector selectorBytes 0 (now (bytes .entry)) [] ⌝ }
 {
-    selected(command::erase::selector_of(words::number2(bytes[0], bytes[1])))
+    selected(rules::erase::selector_of(words::number2(bytes[0], bytes[1])))
 }
 
 // The end of a special erase.
@@ -111,7 +111,7 @@ fn special_ends(usd: &[u8], address: u32, bytes: &[u8]) -> Decision
     command::accept_if(
         checksum::special_checks(address, bytes[0]),
         command::judged(
-            command::erase::erase_all_verdict(usd, address),
+            rules::erase::erase_all_verdict(usd, address),
             command::alter(Reply::Ack, Change::EraseAll, Next::GoIdle),
         ),
         Why::BadChecksum,
@@ -126,7 +126,7 @@ fn erase_ends(usd: &[u8], expected: usize, bytes: &[u8]) -> Decision
     let x = (expected - 1) / 2;
     command::accept_if(
         checksum::checks_numbered(bytes, x),
-        command::erase::erase(usd, bytes, x),
+        rules::erase::erase(usd, bytes, x),
         Why::BadChecksum,
     )
 }
@@ -139,7 +139,7 @@ fn protect_ends(expected: usize, bytes: &[u8]) -> Decision
     let x = expected - 1;
     command::accept_if(
         checksum::checks_counted(bytes, x),
-        command::protect::protect(bytes, x),
+        rules::protect::protect(bytes, x),
         Why::BadChecksum,
     )
 }
@@ -151,7 +151,7 @@ fn crc_ends(address: u32, bytes: &[u8]) -> Decision
 {
     command::accept_if(
         bytes[2] == words::xor_from(CRC_CHECK, bytes, 2),
-        command::sum::sum(Address(address), sent::long_count(bytes[0], bytes[1])),
+        rules::sum::sum(Address(address), sent::long_count(bytes[0], bytes[1])),
         Why::BadChecksum,
     )
 }

@@ -11,8 +11,8 @@ use command::Lookup;
 use command::Next;
 use command::Reply;
 use command::Why;
-use command::at_once;
 use command::code;
+use rules::at_once;
 
 // The command that a byte asks for, if there is one: UART has not the one that sets the speed.
 pub fn look_up(byte: u8) -> Lookup
@@ -61,11 +61,7 @@ pub fn commanded(usd: &[u8], lookup: Lookup) -> Decision
     ensures { λ r. ⌜ r ≡ commanded (now (usd .entry)) lookup ⌝ }
 {
     match lookup {
-        Lookup::Known(command) => command::protected::unless_protected(
-            usd,
-            command,
-            obeyed(command),
-        ),
+        Lookup::Known(command) => rules::protected::unless_protected(usd, command, obeyed(command)),
         Lookup::Unknown => command::nack(Why::UnknownCommand),
     }
 }

@@ -1,0 +1,4 @@
+pub mod Unless
+pub mod Good
+pub mod Rulings
+mod Arms

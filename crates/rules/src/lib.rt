@@ -1,0 +1,20 @@
+pub mod at_once;
+pub mod erase;
+pub mod jump;
+pub mod protect;
+pub mod protected;
+pub mod read;
+pub mod sent;
+pub mod sum;
+pub mod write;
+
+use board::LessOne;
+
+// What the two selector bytes of an erase ask for.
+pub enum Selector {
+    // A list of so many sectors.
+    Listed(LessOne),
+    // All flash, or an erase that this board has not.
+    Special(u16),
+    Impossible,
+}
