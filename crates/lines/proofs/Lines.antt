@@ -1,22 +1,21 @@
 -- Laws of lines and their fields: the kind by the length, the first field, and characters that are too few for one.
-use mathlib.Core.Path.{_≡_, refl, sym, ap, subst, _∙_}
+use mathlib.Core.Path.{_≡_, refl, ap, subst, _∙_}
 use mathlib.Core.Bool.{Bool, true, false, _&&_}
 use mathlib.Core.List.{List, [], _∷_, _++_}
 use Prim.Native.Nat.{ℕ, zero, suc, _+_, _*_, _≤_, _<_}
 use native.Mathlib.Nat.{not-suc-le-zero, le-of-suc-le-suc}
 use native.Mathlib.Omega.{arith}
-use lib.Dec.{T, eqb, leb, ltb, leb→le}
+use lib.Dec.{T, eqb, leb, ltb, leb→le, eqb→eq}
 use lib.ListN.{length, getD, take, drop, length-drop}
 use lib.Seq.{drop-cons, take-append-seam}
 use borrow.Author.Tests.{eq-eqb, ne-eqb, lt-ltb, le-ltb}
 use Rattle.words.specs.Choice.{if_then_else_}
-use Rattle.words.specs.Bytes.{number}
 use Rattle.words.specs.Over.{put}
 use Rattle.words.proofs.Over.{put-front, put-all}
 use Rattle.words.proofs.Tests.{both-left, both-right, holds-true}
 use Rattle.frames.specs.Frames.{classic, frameBytes, frame}
 use Rattle.frames.proofs.Cutting.{length-frame}
-use Rattle.words.specs.Hex.{space, valueOf}
+use Rattle.words.specs.Hex.{space}
 use Rattle.lines.specs.Digits.{isDigit, byteIn}
 use Rattle.lines.specs.Lines.{letterU, letterP, letterC, mostCharacters, isField, areFields, fields, areFrame, idIn, frameWritten, kindBy, kindOf}
 use Rattle.lines.specs.declared.Kind.{Kind}
@@ -79,6 +78,7 @@ length-fields (a ∷ b ∷ c ∷ l) t = let e = length-fields l (both-right (isF
 -- an ID and data: their digits, and no more data than a frame carries
 pub record FrameGood (l : List ℕ) : Type 0 where
   pub long : 4 ≤ length l
+  pub first : getD l 0 0 ≡ space
   pub high : T (isDigit (getD l 1 0))
   pub middle : T (isDigit (getD l 2 0))
   pub low : T (isDigit (getD l 3 0))
@@ -88,6 +88,7 @@ pub record FrameGood (l : List ℕ) : Type 0 where
 pub frame-good : (l : List ℕ) → T (areFrame l) → FrameGood l
 frame-good l t = record {
   long = leb→le 4 (length l) (both-left a b (both-left (a && b) c v));
+  first = eqb→eq (getD l 0 0) space (both-right a b (both-left (a && b) c v));
   high = both-right (a && b) c v;
   middle = both-right (a && b && c) d (both-left (a && b && c && d) e u);
   low = both-right (a && b && c && d) e u;
@@ -134,14 +135,13 @@ data-fits l g =
 
 -- the bytes of the data and the ID make the frame that is written
 pub frame-made : (l m lent : List ℕ) (n id : ℕ) → FrameGood l → length m ≡ frameBytes classic → length lent ≡ 8
-    → n ≡ length (fields (drop 4 l)) → id ≡ number (valueOf (getD l 1 0) ∷ byteIn (getD l 2 0) (getD l 3 0) ∷ [])
+    → n ≡ length (fields (drop 4 l)) → id ≡ idIn l
     → put m 0 (frame classic id (take n (put lent 0 (fields (drop 4 l))))) ≡ frameWritten l
 frame-made l m lent n id h e k c i =
     let o = data-fits l h in
     let x = fields (drop 4 l) in
-    let j : id ≡ idIn l = i ∙ (omega arith) in
     let y = length-frame classic (idIn l) x (omega arith) in
-    rw (c, put-front lent x (omega arith), take-append-seam x (drop (length x) lent), j) (put-all m (frame classic (idIn l) x) (omega arith))
+    rw (c, put-front lent x (omega arith), take-append-seam x (drop (length x) lent), i) (put-all m (frame classic (idIn l) x) (omega arith))
 
 -- a line of no character, of no more than the most, and of more
 pub kind-empty : (line : List ℕ) → length line ≡ 0 → Other ≡ kindOf line

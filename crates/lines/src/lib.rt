@@ -1,4 +1,5 @@
 pub mod digits;
+pub mod first;
 pub mod line;
 pub mod written;
 

@@ -9,6 +9,9 @@ use words::SPACE;
 // The most characters of a line.
 pub const MOST_CHARACTERS: usize = 800;
 
+// The letter of a line that writes a frame.
+pub const FRAME_LETTER: u8 = b'C';
+
 // How many characters an ID takes, with the space before it.
 pub const ID: usize = 4;
 
@@ -64,7 +67,7 @@ fn kind_by(letter: u8, rest: &[u8]) -> Kind
     if power {
         return Kind::PowerOn;
     }
-    let frame = (letter == b'C') & are_frame(rest);
+    let frame = (letter == FRAME_LETTER) & are_frame(rest);
     if frame { Kind::Frame } else { Kind::Other }
 }
 

@@ -5,7 +5,7 @@ ghost use lib.ListN.{length};
 ghost use Rattle.words.specs.Hex.{fieldCharacters};
 ghost use Rattle.words.specs.Over.{put};
 ghost use Rattle.frames.specs.Frames.{classic, frameBytes};
-ghost use Rattle.lines.specs.Lines.{areFields, fields, areFrame, frameWritten};
+ghost use Rattle.lines.specs.Lines.{areFields, fields, areFrame, idIn, frameWritten};
 use crate::digits;
 use crate::line::ID;
 use words::FIELD;
@@ -26,6 +26,14 @@ pub fn bytes(rest: &[u8], out: &mut [u8]) -> usize
     count
 }
 
+// The ID that the characters of a frame write.
+pub fn id(rest: &[u8]) -> u16
+    requires { ⌜ T (areFrame (now rest)) ⌝ }
+    ensures { λ r. ⌜ r ≡ idIn (now (rest .entry)) ⌝ }
+{
+    words::number2(digits::value(rest[1]), digits::byte_in(rest[2], rest[3]))
+}
+
 // Makes the frame that an ID and data write.
 pub fn frame(rest: &[u8], out: &mut [u8])
     requires { ⌜ T (areFrame (now rest)) × (length (now out) ≡ frameBytes classic) ⌝ }
@@ -33,6 +41,5 @@ pub fn frame(rest: &[u8], out: &mut [u8])
 {
     let mut data = [0u8; frames::CLASSIC];
     let n = bytes(&rest[ID..], &mut data);
-    let id = words::number2(digits::value(rest[1]), digits::byte_in(rest[2], rest[3]));
-    frames::put::put_frame(id, &data[..n], frames::CLASSIC, out, 0);
+    frames::put::put_frame(id(rest), &data[..n], frames::CLASSIC, out, 0);
 }
