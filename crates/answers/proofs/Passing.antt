@@ -11,20 +11,18 @@ use Rattle.words.proofs.Over.{put-front}
 use Rattle.words.proofs.Slices.{to-the-end}
 use Rattle.memories.specs.Memories.{proper}
 use Rattle.boot.specs.Session.{on, sound, gathered}
-use Rattle.frames.specs.Frames.{frameIn, carried}
-use Rattle.boot.specs.Calls.{State, Byte, Framed}
+use Rattle.boot.specs.Calls.{State, Byte}
 use Rattle.boot.specs.Promise.{stateOf}
-use Rattle.gathering.specs.Gathering.{Gathers, GathersFrame}
+use Rattle.gathering.specs.Gathering.{Gathers}
 use Rattle.boot.specs.declared.Carrier.the-variants.{Uart}
 use Rattle.boot.specs.declared.Session.{Session}
-use Rattle.gathering.proofs.Silent.{gathers-byte, gathered-more, gathered-sound, gathers-frame}
+use Rattle.gathering.proofs.Silent.{gathers-byte, gathered-more, gathered-sound}
 use Rattle.lines.specs.Lines as L
 use Rattle.lines.specs.Lines.{areFields, fields}
 use Rattle.lines.proofs.Lines.{parted}
 use Rattle.answers.specs.Answers.{deskRoom, tell, tells}
-use Rattle.answers.specs.Promise.{Tells, Passes}
+use Rattle.answers.specs.Promise.{Continues, Passes}
 use Rattle.answers.specs.Told.{Told}
-use Rattle.answers.proofs.Telling.{Continues, nothing-told}
 
 -- the state with bytes gathered
 abbrev after : List ℕ → State → State
@@ -43,7 +41,7 @@ some-passed : (b : ℕ) (bs cs : List ℕ) (p : State) → T (proper (p .memorie
 some-passed b [] cs p m u s h = one-passed b cs p m u s h
 some-passed b (d ∷ bs) cs p m u s h =
     one-passed b (d ∷ bs ++ cs) p m u s (omega arith)
-    ∙ some-passed d bs cs (after (b ∷ []) p) m u (gathered-sound b (p .session) s (omega arith))
+    ∙ some-passed d bs cs (after (b ∷ []) p) m u (gathered-sound (b ∷ []) (p .session) s (omega arith))
     (rw (take-all (p .session .expected - p .session .taken) (b ∷ []) (omega arith)) (omega arith))
     ∙ ap (λ (t : Session). tells (map (Byte deskRoom) cs) (record { session = t; memories = p .memories })) (gathered-more b (d ∷ bs) (p .session) (omega arith))
 
@@ -92,10 +90,3 @@ passed-on rest i n s next f r u {from = from} {at = at} {out = out} {before = be
       fields = rw d at (q .left);
       told = rw (q .told f r u refl refl refl, d) at k;
     }
-
--- ---- a frame that is only gathered
-pub frame-passed : (l : List ℕ) (s next : Session) (f r u : List ℕ) → GathersFrame s (length f) (length r) (length u) l → next ≡ gathered (carried (frameIn l)) s
-    → (at : ℕ) (out : List ℕ) → Tells (tells (Framed deskRoom l ∷ []) (stateOf s f r u)) at out at out (stateOf next f r u)
-unfolding tells tell
-frame-passed l s next f r u g e at out =
-    rw (gathers-frame deskRoom l (stateOf s f r u) (omega arith) g, ← e) (nothing-told (stateOf next f r u) at out)

@@ -27,7 +27,7 @@ use Rattle.print.specs.Digits.{decimal}
 use Rattle.answers.specs.Told.{Told, quiet, _then_}
 use Rattle.print.specs.Prints.{spelled}
 use Rattle.answers.specs.Answers.{answered, notUnderstood, deskRoom, spelledFor, tell, tells, callsOf, obeyed, notice, answerBy}
-use Rattle.answers.specs.Promise.{Tells}
+use Rattle.answers.specs.Promise.{Tells, Continues}
 use Rattle.lines.specs.declared.Kind.{Kind}
 use Rattle.lines.specs.declared.Kind.the-variants.{Bytes, Frame, PowerOn, Other}
 use Rattle.lines.proofs.Kind.{the-type}
@@ -104,15 +104,23 @@ one-call i p at end out out' q h = record {
   state = h .state;
 }
 
--- what is left to tell from a place in a text on ends as the whole does
-pub record Continues {A : Type 0} (rest : Told A) (from : ℕ) (out : List ℕ) (whole : Told A) (at : ℕ) (before : List ℕ) : Type 0 where
-  pub end : from + length (rest .text) ≡ at + length (whole .text)
-  pub text : put out from (rest .text) ≡ put before at (whole .text)
-  pub state : rest .state ≡ whole .state
-
 -- before anything is told, the whole is left
 pub all-left : {A : Type 0} (t : Told A) (at : ℕ) (out : List ℕ) → Continues t at out t at out
 all-left t at out = record { end = refl; text = refl; state = refl }
+
+-- what is left of what is left
+pub left-of-left : {A : Type 0} {a b c : Told A} {from mid at : ℕ} {out between before : List ℕ}
+    → Continues a from out b mid between → Continues b mid between c at before → Continues a from out c at before
+left-of-left k h = record { end = k .end ∙ h .end; text = k .text ∙ h .text; state = k .state ∙ h .state }
+
+-- a text stands before what is left
+pub text-told : {A : Type 0} (t : Told A) (l : List ℕ) (from to : ℕ) (out : List ℕ) → to ≡ from + length l
+    → Continues t to (put out from l) (record { text = l ++ t .text; state = t .state }) from out
+text-told t l from to out e = record {
+  end = let a = length-append l (t .text) in omega arith;
+  text = put-then out from to l (t .text) e;
+  state = refl;
+}
 
 -- one thing is told, and what was to be told after it is left
 pub one-told : {A B : Type 0} (t : Told A) (f : A → Told B) {from to at : ℕ} {out out' before : List ℕ} {a : A} {whole : Told B}

@@ -19,6 +19,12 @@ pub record Tells {A : Type 0} (t : Told A) (at : ℕ) (before : List ℕ) (until
   pub text : after ≡ put before at (t .text)
   pub state : now ≡ t .state
 
+-- what is left to tell from a place in a text on ends as the whole does
+pub record Continues {A : Type 0} (rest : Told A) (from : ℕ) (out : List ℕ) (whole : Told A) (at : ℕ) (before : List ℕ) : Type 0 where
+  pub end : from + length (rest .text) ≡ at + length (whole .text)
+  pub text : put out from (rest .text) ≡ put before at (whole .text)
+  pub state : rest .state ≡ whole .state
+
 -- a session takes the first characters of some hex bytes, n of them, at once: nothing is told of these, and another session is left
 pub record Passes (s : Session) (flash sram usd : ℕ) (rest : List ℕ) (next : Session) (n : ℕ) : Type 0 where
   pub within : n ≤ length rest

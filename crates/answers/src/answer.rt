@@ -15,6 +15,7 @@ use crate::Passed;
 use boot::Session;
 use lines::Kind;
 use lines::digits;
+use lines::first::LINE_FEED;
 use lines::line;
 use lines::written;
 use words::FIELD;
@@ -23,10 +24,8 @@ use words::SPACE;
 // The room for a reply: what either carrier needs.
 const ROOM: usize = can::say::ROOM;
 
-// The character that ends a line, and those that begin an answer.
-pub const LINE_FEED: u8 = b'\n';
-
-const ANSWERED: u8 = b'>';
+// The characters that begin an answer.
+pub const ANSWERED: u8 = b'>';
 
 const NOT_UNDERSTOOD: u8 = b'?';
 
@@ -128,13 +127,6 @@ fn tell_frame(
 {
     let mut input = [0u8; frames::BYTES];
     written::frame(rest, &mut input);
-    let gathers = gathering::silent_frame(session, &input, flash.len(), sram.len(), usd.len());
-    if gathers {
-        return Answered {
-            session: session.gather(frames::carried(&input)),
-            end: at,
-        };
-    }
     let mut buffer = [0u8; ROOM];
     let taken = session.take_frame(&input, flash, sram, usd, &mut buffer);
     let next = taken.session;

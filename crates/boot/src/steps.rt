@@ -39,7 +39,7 @@ fn step_sound(carrier: u8, step: u8, expected: usize) -> bool
 }
 
 // Puts the first n new bytes among the staged ones, from an index on.
-fn stage(staged: &mut [u8; memories::STAGED], at: usize, new: &[u8], n: usize)
+pub fn stage(staged: &mut [u8; memories::STAGED], at: usize, new: &[u8], n: usize)
     requires { ⌜ (at + n ≤ stagedBytes) × (n ≤ length (now new)) ⌝ }
     ensures { λ _. ⌜ now (staged .exit) ≡ put (now (staged .entry)) at (take n (now (new .entry))) ⌝ }
 {

@@ -10,6 +10,7 @@ use crate::wide;
 use boot::Session;
 use boot::Taken;
 use libc::STDOUT_FILENO;
+use lines::first::LINE_FEED;
 
 // The modulus of a digest's two sums, and how many bits each takes.
 const MODULUS: u64 = 65521;
@@ -25,10 +26,8 @@ const ONE: usize = 1;
 // The room for the line of an answer: a large buffer of `io`.
 const ROOM: usize = 65536;
 
-// The characters that begin and end the line of an answer.
+// The character that begins the line of an answer.
 const ANSWERED: u8 = b'>';
-
-const LINE_FEED: u8 = b'\n';
 
 // The digest of bytes: Adler-32.
 fn digest(bytes: &[u8]) -> u64 {

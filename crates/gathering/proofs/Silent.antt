@@ -1,24 +1,28 @@
 -- Bytes that a session connected to UART only gathers: each is accepted, says nothing and changes no memory, so that many may be taken at once.
 use mathlib.Core.Path.{_≡_, refl, sym, ap, ap₂, subst, _∙_}
-use mathlib.Core.Bool.{Bool, true, false, not, _&&_}
+use mathlib.Core.Bool.{Bool, true, false, _&&_}
 use mathlib.Core.List.{List, [], _∷_}
 use Prim.Native.Nat.{ℕ, _+_, _-_, _≤_, _<_}
 use native.Mathlib.Omega.{arith}
-use lib.Dec.{T, eqb, leb, ltb, eqb→eq}
+use lib.Dec.{T, leb, ltb, eqb→eq}
 use lib.ListN.{length}
-use borrow.Author.Tests.{le-leb, lt-ltb, eq-eqb, ne-eqb, not-false}
+use borrow.Author.Tests.{le-leb, lt-ltb, eq-eqb, ne-eqb}
 use lib.Seq.{take-all}
 use Rattle.words.specs.Over.{put}
 use Rattle.words.proofs.Over.{put-then}
-use Rattle.words.proofs.Tests.{both-left, both-right, holds-true}
+use Rattle.words.proofs.Tests.{both-left, holds-true}
 use Rattle.memories.specs.Memories.{proper}
 use Rattle.memories.specs.Effects.{effect}
+use Rattle.command.specs.Commands.{code}
 use Rattle.command.specs.Decision.{if_gives_else_, answer}
 use Rattle.command.specs.Progress.{Progress}
 use Rattle.command.specs.Says.{says}
+use Rattle.command.specs.declared.Command.{Command}
+use Rattle.command.specs.declared.Command.the-variants.{WriteMemory, Erase, ProgramProtect}
+use Rattle.command.specs.declared.Decision.{Decision}
 use Rattle.command.specs.declared.Next.the-variants.{Gather}
 use Rattle.command.specs.declared.Reply.the-variants.{Silence}
-use Rattle.frames.specs.Frames.{Frame, classic, frameIn, carried, isFrame}
+use Rattle.frames.specs.Frames.{Frame, classic, largestId, frameIn, carried, counted, isFrame}
 use Rattle.frames.proofs.Frames.{carried-length}
 use Rattle.can.specs.Steps as C
 use Rattle.can.specs.Conversation as CC
@@ -29,7 +33,7 @@ use Rattle.boot.specs.Session.{on, stepSound, sound, progress, gathered, after}
 use Rattle.boot.specs.Causes.{causeOf}
 use Rattle.boot.specs.Decide.{connected, decideByte, decideFrame}
 use Rattle.boot.specs.Calls.{State, Byte, Framed, Outcome, causeFor, decide, sent, perform, call}
-use Rattle.gathering.specs.Gathering.{GathersFrame}
+use Rattle.gathering.specs.Gathering.{HearsFrames, SilentFrame}
 use Rattle.boot.specs.declared.Carrier.the-variants.{Uart, Can}
 use Rattle.boot.specs.declared.Cause.the-variants.{Accepted}
 use Rattle.boot.specs.declared.Session.{Session}
@@ -71,7 +75,7 @@ withTaken new s = record {
   staged = put (s .staged) (s .taken) new;
 }
 
-all-fit : (new : List ℕ) (s : Session) → s .taken + length new ≤ s .expected → gathered new s ≡ withTaken new s
+pub all-fit : (new : List ℕ) (s : Session) → s .taken + length new ≤ s .expected → gathered new s ≡ withTaken new s
 all-fit new s h =
     let e = take-all (s .expected - s .taken) new (omega arith) in
     ap (λ (l : List ℕ). record {
@@ -101,12 +105,12 @@ gathered-more b bs s h =
     ∙ sym (all-fit (b ∷ bs) s (omega arith))
 
 -- and a session that expects more stays sound
-pub gathered-sound : (b : ℕ) (s : Session) → T (sound s) → s .taken + 1 < s .expected → T (sound (gathered (b ∷ []) s))
+pub gathered-sound : (new : List ℕ) (s : Session) → T (sound s) → s .taken + length new < s .expected → T (sound (gathered new s))
 unfolding sound
-gathered-sound b s t h =
+gathered-sound new s t h =
     let a = leb (s .carrier) 3 && leb (s .speed) 3 && stepSound (s .carrier) (s .step) (s .expected) in
-    let l = take-all (s .expected - s .taken) (b ∷ []) (omega arith) in
-    rw (holds-true a (both-left a (ltb (s .taken) (s .expected)) t), l, lt-ltb (s .taken + 1) (s .expected) h) tt
+    let l = take-all (s .expected - s .taken) new (omega arith) in
+    rw (holds-true a (both-left a (ltb (s .taken) (s .expected)) t), l, lt-ltb (s .taken + length new) (s .expected) h) tt
 
 -- three tests that hold together
 pub all-three : (a b d : Bool) → a && b && d ≡ true → T a × T b × T d
@@ -115,41 +119,55 @@ all-three true true false e = absurd (subst T (sym e) tt)
 all-three true false d e = absurd (subst T (sym e) tt)
 all-three false b d e = absurd (subst T (sym e) tt)
 
--- what a frame that may be gathered has passed
-pub ready : (a b d e : Bool) → not (a && b && d && e) ≡ false → T a × T b × T d × T e
-ready a b d e h =
-    let t : T (a && b && d && e) = subst T (sym (not-false (a && b && d && e) h)) tt in
-    let l = all-three a b d (holds-true (a && b && d) (both-left (a && b && d) e t)) in
-    (l .0, l .1, l .2, both-right (a && b && d) e t)
-
 -- ---- a frame that a session connected to CAN only gathers
 
--- it bears the running ID, has bytes, and the step expects more
+-- a step that gathers, and expects more than a frame of its ID brings
+silent-step : (c : Command) (p : Progress) (f : Frame) (done : Decision) → code c ≡ f .id → 0 < f .dlc → p .taken + length (f .bytes) < p .expected
+    → CC.gathering c p f done ≡ answer Silence Gather
+unfolding CC.gathering if_gives_else_
+silent-step c p f done b h s =
+    rw (eq-eqb (f .id) (code c) (sym b), ne-eqb (f .dlc) 0 (λ e. omega arith), lt-ltb (p .taken + length (f .bytes)) (p .expected) s) refl
+
 frame-heard : (k : CS.Step) (p : Progress) (usd : List ℕ) (f : Frame) → T (C.expects k (p .expected)) → CC.bears k (f .id) ≡ f .id → 0 < f .dlc
-    → length (carried f) ≡ f .dlc → p .taken + f .dlc < p .expected → CC.heard k p usd f ≡ answer Silence Gather
-unfolding CC.heard CC.decided CC.gathering if_gives_else_
+    → length (carried f) ≡ f .dlc → p .taken + length (carried f) < p .expected → CC.heard k p usd f ≡ answer Silence Gather
+unfolding CC.heard CC.decided
 frame-heard CSV.Idle p usd f t b h l s = absurd (omega (arith, eqb→eq (p .expected) 1 t))
-frame-heard CSV.WriteData p usd f t b h l s =
-    rw (eq-eqb (f .id) 0x31 (sym b), ne-eqb (f .dlc) 0 (λ e. omega arith), l, lt-ltb (p .taken + f .dlc) (p .expected) s) refl
-frame-heard CSV.EraseList p usd f t b h l s =
-    rw (eq-eqb (f .id) 0x44 (sym b), ne-eqb (f .dlc) 0 (λ e. omega arith), l, lt-ltb (p .taken + f .dlc) (p .expected) s) refl
-frame-heard CSV.ProtectList p usd f t b h l s =
-    rw (eq-eqb (f .id) 0x63 (sym b), ne-eqb (f .dlc) 0 (λ e. omega arith), l, lt-ltb (p .taken + f .dlc) (p .expected) s) refl
+frame-heard CSV.WriteData p usd f t b h l s = silent-step WriteMemory _ (counted f) _ b h s
+frame-heard CSV.EraseList p usd f t b h l s = silent-step Erase _ (counted f) _ b h s
+frame-heard CSV.ProtectList p usd f t b h l s = silent-step ProgramProtect _ (counted f) _ b h s
+
+-- an ID that such a step gathers is that of a frame
+own-small : (k : CS.Step) (expected id : ℕ) → T (C.expects k expected) → 1 < expected → CC.bears k id ≡ id → id ≤ largestId
+own-small CSV.Idle expected id t h b = absurd (omega (arith, eqb→eq expected 1 t))
+own-small CSV.WriteData expected id t h b = omega arith
+own-small CSV.EraseList expected id t h b = omega arith
+own-small CSV.ProtectList expected id t h b = omega arith
+
+module _ (s : Session) (flash sram usd : ℕ) (g : HearsFrames s flash sram usd) where
+  pub silent-id : (id dlc : ℕ) → SilentFrame (s .step) (s .taken) (s .expected) id dlc → id ≤ largestId
+  silent-id id dlc h =
+      own-small (C.stepOf (s .step)) (s .expected) id (can-expects s (g .firm) (g .here)) (omega (arith, h .some, h .short)) (h .own)
+
+  -- frames are heard after bytes that were only gathered
+  pub still-hears : (new : List ℕ) → s .taken + length new < s .expected → HearsFrames (gathered new s) flash sram usd
+  still-hears new h = record { lengths = g .lengths; here = g .here; firm = gathered-sound new s (g .firm) h }
 
 pub gathers-frame : (room : ℕ) (l : List ℕ) (p : State) → CC.canRoom ≤ room
-    → GathersFrame (p .session) (length (p .memories .flash)) (length (p .memories .sram)) (length (p .memories .usd)) l
+    → HearsFrames (p .session) (length (p .memories .flash)) (length (p .memories .sram)) (length (p .memories .usd)) → T (isFrame classic l)
+    → SilentFrame (p .session .step) (p .session .taken) (p .session .expected) (frameIn l .id) (frameIn l .dlc)
     → call (Framed room l) p ≡ onlyGathered (carried (frameIn l)) p
 unfolding call causeFor causeOf decide decideFrame connected if_gives_else_ perform sent says after effect
-gathers-frame room l p r g =
+gathers-frame room l p r g f h =
     let s = p .session in
     let c : s .carrier ≡ 2 = eqb→eq (s .carrier) 2 (g .here) in
+    let k = carried-length l f in
     rw (
       holds-true (proper (p .memories)) (g .lengths),
       le-leb CC.canRoom room r,
-      holds-true (isFrame classic l) (g .formed),
+      holds-true (isFrame classic l) f,
       holds-true (sound s) (g .firm),
       ne-eqb (s .carrier) 3 (λ e. omega arith),
       holds-true (on Can s) (g .here),
-      frame-heard (C.stepOf (s .step)) (progress s) (p .memories .usd) (frameIn l) (can-expects s (g .firm) (g .here)) (g .own) (g .some)
-          (carried-length l (g .formed)) (g .short),
+      frame-heard (C.stepOf (s .step)) (progress s) (p .memories .usd) (frameIn l) (can-expects s (g .firm) (g .here)) (h .own) (h .some) k
+          (omega (arith, h .short)),
     ) refl

@@ -1,6 +1,6 @@
 ghost use Prim.Native.Nat.{_≤_, _<_};
 ghost use lib.Dec.{T};
-ghost use Rattle.gathering.specs.Gathering.{Gathers, GathersFrame};
+ghost use Rattle.gathering.specs.Gathering.{Gathers, HearsFrames, SilentFrame};
 use boot::Carrier;
 use boot::Session;
 
@@ -17,17 +17,18 @@ pub fn silent_bytes(session: Session, n: usize, flash: usize, sram: usize, usd: 
     }
 }
 
-// Whether the session only gathers a frame, given the lengths of the memories: gathering its bytes is then taking it.
-pub fn silent_frame(session: Session, frame: &[u8], flash: usize, sram: usize, usd: usize) -> bool
-    ensures { λ r. ⌜ (T r → GathersFrame session flash sram usd (now (frame .entry))) ⌝ }
+// Whether the session is one on CAN that hears frames, given the lengths of the memories.
+pub fn hears_frames(session: Session, flash: usize, sram: usize, usd: usize) -> bool
+    ensures { λ r. ⌜ (T r → HearsFrames session flash sram usd) ⌝ }
 {
-    let hears = boot::take::lengths_right(flash, sram, usd) & session.on(Carrier::Can);
-    let ready = hears & session.sound() & frames::is_frame(frame);
-    if !ready {
-        return false;
-    }
-    let id = frames::id(frame);
-    let dlc = frames::dlc(frame);
-    let own = id == can::conversation::bears(session.step, id);
-    own & (0 < dlc) & (dlc < session.expected - session.taken)
+    boot::take::lengths_right(flash, sram, usd) & session.on(Carrier::Can) & session.sound()
+}
+
+// Whether a step of CAN only gathers a frame of an ID and so many data bytes.
+pub fn silent_frame(step: u8, taken: usize, expected: usize, id: u16, dlc: usize) -> bool
+    requires { ⌜ taken ≤ expected ⌝ }
+    ensures { λ r. ⌜ (T r → SilentFrame step taken expected id dlc) ⌝ }
+{
+    let own = id == can::conversation::bears(step, id);
+    own & (0 < dlc) & (dlc < expected - taken)
 }

@@ -1,3 +1,4 @@
 pub mod Hearing
+mod Passing
 pub mod Whole
 pub mod Example

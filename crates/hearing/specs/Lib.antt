@@ -1,3 +1,4 @@
 pub mod Desk
 pub mod Promise
+pub mod Passing
 pub mod Example

@@ -1,13 +1,16 @@
+pub mod pass;
+
 ghost use mathlib.Core.Path.{_≡_};
 ghost use Prim.Native.Nat.{_+_, _*_, _^_, _≤_, _<_};
-ghost use lib.ListN.{length, take};
+ghost use lib.ListN.{length, take, drop};
 ghost use Rattle.answers.specs.Answers.{deskRoom};
+ghost use Rattle.answers.specs.Told.{_then_};
 ghost use Rattle.hearing.specs.Desk.{keptCharacters, keep, lineEnds, hears, inputEnds};
-ghost use Rattle.answers.specs.Promise.{Tells, answerRoom};
+ghost use Rattle.answers.specs.Promise.{Tells, Continues, answerRoom};
 ghost use Rattle.hearing.specs.Promise.{deskOf};
 use answers::answer;
-use answers::answer::LINE_FEED;
 use boot::Session;
+use lines::first::LINE_FEED;
 use lines::line::MOST_CHARACTERS;
 
 // What is kept of a line: one character more than it may have tells that it is too long.
@@ -19,6 +22,12 @@ pub struct Desk {
     pub lines: u64,
     pub kept: usize,
     pub end: usize,
+}
+
+// What is so after a line: the desk, and how many characters behind the line were taken with it.
+pub struct Heard {
+    pub desk: Desk,
+    pub characters: usize,
 }
 
 // Keeps a character of the line that has begun, and tells how many are kept.
@@ -69,6 +78,37 @@ fn end_line(
     }
 }
 
+// Answers the line that has begun, and takes at once the lines behind it that write frames which are only gathered.
+fn go_on(
+    desk: Desk,
+    line: &[u8],
+    rest: &[u8],
+    flash: &mut [u8],
+    sram: &mut [u8],
+    usd: &mut [u8],
+    out: &mut [u8],
+) -> Heard
+    requires { ⌜ (desk .kept ≤ length (now line)) × (desk .lines + 1 + length (now rest) < 2 ^ 64) × (desk .end + answerRoom (desk .kept) + length (now rest) ≤ length (now out)) ⌝ }
+    ensures { λ r. ⌜ Continues (hears (drop (r .characters) (now (rest .entry))) (deskOf (r .desk) (now (line .entry)) (now (flash .exit)) (now (sram .exit)) (now (usd .exit)))) (r .desk .end) (now (out .exit)) (lineEnds (deskOf desk (now (line .entry)) (now (flash .entry)) (now (sram .entry)) (now (usd .entry))) then hears (now (rest .entry))) (desk .end) (now (out .entry)) ⌝ }
+    ensures { λ r. ⌜ (r .characters ≤ length (now (rest .entry))) × (r .desk .kept ≡ 0) × (r .desk .lines ≤ desk .lines + 1 + r .characters) × (r .desk .end ≤ desk .end + answerRoom (desk .kept) + r .characters) ⌝ }
+{
+    let next = end_line(desk, line, flash, sram, usd, out);
+    let session = next.session;
+    let gathered = pass::gather_lines(session, rest, flash.len(), sram.len(), usd.len());
+    let passed = gathered.session;
+    let lines = gathered.lines;
+    let end = pass::nod(lines, out, next.end);
+    Heard {
+        desk: Desk {
+            session: passed,
+            lines: next.lines + lines,
+            kept: 0,
+            end: end,
+        },
+        characters: gathered.characters,
+    }
+}
+
 // Takes characters in, and answers each line as soon as its LF comes.
 pub fn hear(
     desk: Desk,
@@ -90,7 +130,10 @@ pub fn hear(
         let character = text[i];
         i += 1;
         if character == LINE_FEED {
-            here = end_line(here, line, flash, sram, usd, out);
+            let heard = go_on(here, line, &text[i..], flash, sram, usd, out);
+            let next = heard.desk;
+            here = next;
+            i += heard.characters;
             continue;
         }
         let kept = here.kept;

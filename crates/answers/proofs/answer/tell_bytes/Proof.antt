@@ -12,7 +12,8 @@ use Rattle.boot.specs.Promise.{stateOf}
 use Rattle.lines.specs.Lines.{areFields, fields}
 use Rattle.answers.specs.Answers.{deskRoom, tell, tells}
 use Rattle.lines.proofs.Lines.{field-good}
-use Rattle.answers.proofs.Telling.{Continues, all-left, one-told, none-left, tells-fields}
+use Rattle.answers.specs.Promise.{Continues}
+use Rattle.answers.proofs.Telling.{all-left, one-told, none-left, tells-fields}
 use Rattle.answers.proofs.Passing.{passed-on}
 use Rattle.answers.proofs.answer.tell_bytes.Statement.{statement}
 use Rattle.answers.proofs.answer.tell_bytes.Tie as tie

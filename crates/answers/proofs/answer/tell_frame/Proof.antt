@@ -1,4 +1,4 @@
--- The frame is made; where it is only gathered nothing is told, else the call leaves what it promises, and the front of the room, which is whole frames, is printed.
+-- The frame is made, the call leaves what it promises, and the front of the room, which is whole frames, is printed.
 use borrow.Author.Needs.{needs}
 use native.Mathlib.Omega.{arith}
 use mathlib.Core.Path.{refl, sym, ap, subst, _∙_}
@@ -13,12 +13,8 @@ use Rattle.lines.proofs.Lines.{frame-good}
 use Rattle.answers.specs.Answers.{deskRoom, tells}
 use Rattle.answers.specs.Promise.{Tells}
 use Rattle.answers.proofs.Telling.{took-fits, took-reply, input-told, frame-whole, one-call}
-use lib.Dec.{T}
-use Rattle.boot.specs.Session.{gathered}
-use Rattle.boot.proofs.Sound.{sound-taken, sound-expected}
-use Rattle.answers.proofs.Passing.{frame-passed}
-use Rattle.answers.proofs.answer.tell_frame.Statement.{statement}
 use Rattle.answers.proofs.answer.tell_frame.Tie as tie
+use Rattle.answers.proofs.answer.tell_frame.Statement.{statement}
 
 pub tell-frame-spec : {M : Type 1} → statement M
 unfolding outcome
@@ -28,19 +24,13 @@ tell-frame-spec =
     (λ c. search needs)
     (λ c κs. search needs)
     (λ c. search needs)
-    (λ c κs. search needs)
-    (λ c. search needs)
-    (λ c κs. let g = (c .before .before .silent-frame .ensures) (subst T (sym (c .before .if1 .taken)) tt) in g .formed)
-    (λ c κs. let g = (c .before .before .before .silent-frame .ensures) (subst T (sym (c .before .before .if1 .taken)) tt) in (sound-taken (c .before .before .before .before .before .before .before .before .before .before .before .before .before .args .session) (g .firm), sound-expected (c .before .before .before .before .before .before .before .before .before .before .before .before .before .args .session) (g .firm)))
-    (λ c. let g = (c .before .before .before .before .silent-frame .ensures) (subst T (sym (c .before .before .before .if1 .taken)) tt) in let p = stateOf (c .before .before .before .before .before .before .before .before .before .before .before .before .before .before .args .session) (c .before .before .before .before .before .before .before .before .before .before .before .before .before .before .args .flash .now) (c .before .before .before .before .before .before .before .before .before .before .before .before .before .before .args .sram .now) (c .before .before .before .before .before .before .before .before .before .before .before .before .before .before .args .usd .now) in let q = stateOf (c .gather .result) (c .before .before .before .before .before .before .before .before .before .before .before .before .before .before .args .flash .now) (c .before .before .before .before .before .before .before .before .before .before .before .before .before .before .args .sram .now) (c .before .before .before .before .before .before .before .before .before .before .before .before .before .before .args .usd .now) in (subst (λ (w : List ℕ). Tells (tells (Framed deskRoom w ∷ []) p) (c .before .before .before .before .before .before .before .before .before .before .before .before .before .before .args .at) (c .before .before .before .before .before .before .before .before .before .before .before .before .before .before .args .out .now) (c .before .before .before .before .before .before .before .before .before .before .before .before .before .before .args .at) (c .before .before .before .before .before .before .before .before .before .before .before .before .before .before .args .out .now) q) (c .before .before .before .before .before .before .before .frame .ensures) (frame-passed (c .before .before .before .before .before .before .before .frame .last .1 .0) (c .before .before .before .before .before .before .before .before .before .before .before .before .before .before .args .session) (c .gather .result) (c .before .before .before .before .before .before .before .before .before .before .before .before .before .before .args .flash .now) (c .before .before .before .before .before .before .before .before .before .before .before .before .before .before .args .sram .now) (c .before .before .before .before .before .before .before .before .before .before .before .before .before .before .args .usd .now) g ((c .gather .ensures) ∙ ap (λ (l : List ℕ). gathered l (c .before .before .before .before .before .before .before .before .before .before .before .before .before .before .args .session)) (c .before .carried .ensures .0)) (c .before .before .before .before .before .before .before .before .before .before .before .before .before .before .args .at) (c .before .before .before .before .before .before .before .before .before .before .before .before .before .before .args .out .now)), omega arith))
-    (λ c. search needs)
     (λ c. search needs)
     (λ c κs. search needs)
-    (λ c. let g = givenFrame (c .before .before .before .before .before .before .before .before .before .before .before .before .before .before .before .before .before .before .before .before .before .before .before .before .before .args .session) ((c .before .before .before .before .before .before .before .before .before .before .before .before .before .before .before .before .before .before .frame .last .1 .0)) (c .before .before .before .before .before .before .before .before .before .before .before .before .before .before .before .before .before .before .before .before .before .before .before .before .before .args .flash .now) (c .before .before .before .before .before .before .before .before .before .before .before .before .before .before .before .before .before .before .before .before .before .before .before .before .before .args .sram .now) (c .before .before .before .before .before .before .before .before .before .before .before .before .before .before .before .before .before .before .before .before .before .before .before .before .before .args .usd .now) (replicate 363 0) in let l = left (c .before .before .before .before .before .before .before .before .take-frame .result) ((c .before .before .before .before .before .before .before .before .take-frame .last .1 .1 .0)) ((c .before .before .before .before .before .before .before .before .take-frame .last .1 .1 .1 .0)) ((c .before .before .before .before .before .before .before .before .take-frame .last .1 .1 .1 .1 .0)) ((c .before .before .before .before .before .before .before .before .take-frame .last .1 .1 .1 .1 .1 .0)) in let f = took-fits g l (c .before .before .before .before .before .before .before .before .take-frame .ensures) ((c .before .before .before .before .before .before .before .before .take-frame .kept .1 .1 .1 .1 .1 .0)) in omega (arith, f, (c .before .before .before .before .before .before .before .before .take-frame .kept .1 .1 .1 .1 .1 .0)))
-    (λ c. let g = givenFrame (c .before .before .before .before .before .before .before .before .before .before .before .before .before .before .before .before .before .before .before .before .before .before .before .before .before .before .args .session) ((c .before .before .before .before .before .before .before .before .before .before .before .before .before .before .before .before .before .before .before .frame .last .1 .0)) (c .before .before .before .before .before .before .before .before .before .before .before .before .before .before .before .before .before .before .before .before .before .before .before .before .before .before .args .flash .now) (c .before .before .before .before .before .before .before .before .before .before .before .before .before .before .before .before .before .before .before .before .before .before .before .before .before .before .args .sram .now) (c .before .before .before .before .before .before .before .before .before .before .before .before .before .before .before .before .before .before .before .before .before .before .before .before .before .before .args .usd .now) (replicate 363 0) in let l = left (c .before .before .before .before .before .before .before .before .before .take-frame .result) ((c .before .before .before .before .before .before .before .before .before .take-frame .last .1 .1 .0)) ((c .before .before .before .before .before .before .before .before .before .take-frame .last .1 .1 .1 .0)) ((c .before .before .before .before .before .before .before .before .before .take-frame .last .1 .1 .1 .1 .0)) ((c .before .before .before .before .before .before .before .before .before .take-frame .last .1 .1 .1 .1 .1 .0)) in let f = took-fits g l (c .before .before .before .before .before .before .before .before .before .take-frame .ensures) ((c .before .before .before .before .before .before .before .before .before .take-frame .kept .1 .1 .1 .1 .1 .0)) in sym (length-take-le (c .before .before .before .before .before .before .before .before .before .take-frame .result .length) ((c .before .before .before .before .before .before .before .before .before .take-frame .last .1 .1 .1 .1 .1 .0)) (omega (arith, f, (c .before .before .before .before .before .before .before .before .before .take-frame .kept .1 .1 .1 .1 .1 .0)))))
-    (λ c κs. let g = givenFrame (c .before .before .before .before .before .before .before .before .before .before .before .before .before .before .before .before .before .before .before .before .before .before .before .before .before .before .before .args .session) ((c .before .before .before .before .before .before .before .before .before .before .before .before .before .before .before .before .before .before .before .before .frame .last .1 .0)) (c .before .before .before .before .before .before .before .before .before .before .before .before .before .before .before .before .before .before .before .before .before .before .before .before .before .before .before .args .flash .now) (c .before .before .before .before .before .before .before .before .before .before .before .before .before .before .before .before .before .before .before .before .before .before .before .before .before .before .before .args .sram .now) (c .before .before .before .before .before .before .before .before .before .before .before .before .before .before .before .before .before .before .before .before .before .before .before .before .before .before .before .args .usd .now) (replicate 363 0) in let l = left (c .before .before .before .before .before .before .before .before .before .before .take-frame .result) ((c .before .before .before .before .before .before .before .before .before .before .take-frame .last .1 .1 .0)) ((c .before .before .before .before .before .before .before .before .before .before .take-frame .last .1 .1 .1 .0)) ((c .before .before .before .before .before .before .before .before .before .before .take-frame .last .1 .1 .1 .1 .0)) ((c .before .before .before .before .before .before .before .before .before .before .take-frame .last .1 .1 .1 .1 .1 .0)) in let f = took-fits g l (c .before .before .before .before .before .before .before .before .before .before .take-frame .ensures) ((c .before .before .before .before .before .before .before .before .before .before .take-frame .kept .1 .1 .1 .1 .1 .0)) in let k = length-take-le (c .before .before .before .before .before .before .before .before .before .before .take-frame .result .length) ((c .before .before .before .before .before .before .before .before .before .before .take-frame .last .1 .1 .1 .1 .1 .0)) (omega (arith, f, (c .before .before .before .before .before .before .before .before .before .before .take-frame .kept .1 .1 .1 .1 .1 .0))) in let o = frame-good (c .before .before .before .before .before .before .before .before .before .before .before .before .before .before .before .before .before .before .before .before .before .before .before .before .before .before .before .args .rest .now) (c .before .before .before .before .before .before .before .before .before .before .before .before .before .before .before .before .before .before .before .before .before .before .before .before .before .before .before .pre .0) in (ap (λ (r : List ℕ). length r % frameBytes classic) (took-reply g l (c .before .before .before .before .before .before .before .before .before .before .take-frame .ensures)) ∙ frame-whole 363 ((c .before .before .before .before .before .before .before .before .before .before .before .before .before .before .before .before .before .before .before .before .frame .last .1 .0)) (stateOf (c .before .before .before .before .before .before .before .before .before .before .before .before .before .before .before .before .before .before .before .before .before .before .before .before .before .before .before .args .session) (c .before .before .before .before .before .before .before .before .before .before .before .before .before .before .before .before .before .before .before .before .before .before .before .before .before .before .before .args .flash .now) (c .before .before .before .before .before .before .before .before .before .before .before .before .before .before .before .before .before .before .before .before .before .before .before .before .before .before .before .args .sram .now) (c .before .before .before .before .before .before .before .before .before .before .before .before .before .before .before .before .before .before .before .before .before .before .before .before .before .before .before .args .usd .now)), omega (arith, k, f, o .long, (c .before .before .before .before .before .before .before .before .before .before .before .before .before .before .before .before .before .before .before .before .before .before .before .before .before .before .before .pre .1))))
+    (λ c. let g = givenFrame ((c .before .before .before .before .before .before .before .before .before .before .before .before .before .before .before .before .before .before .before .before .before .before .args .session)) (((c .before .before .before .before .before .before .before .before .before .before .before .before .before .before .before .frame .last .1 .0))) ((c .before .before .before .before .before .before .before .before .before .before .before .before .before .before .before .before .before .before .before .before .before .before .args .flash .now)) ((c .before .before .before .before .before .before .before .before .before .before .before .before .before .before .before .before .before .before .before .before .before .before .args .sram .now)) ((c .before .before .before .before .before .before .before .before .before .before .before .before .before .before .before .before .before .before .before .before .before .before .args .usd .now)) (replicate 363 0) in let l = left ((c .before .before .before .before .before .before .before .before .take-frame .result)) (((c .before .before .before .before .before .before .before .before .take-frame .last .1 .1 .0))) (((c .before .before .before .before .before .before .before .before .take-frame .last .1 .1 .1 .0))) (((c .before .before .before .before .before .before .before .before .take-frame .last .1 .1 .1 .1 .0))) (((c .before .before .before .before .before .before .before .before .take-frame .last .1 .1 .1 .1 .1 .0))) in let f = took-fits g l ((c .before .before .before .before .before .before .before .before .take-frame .ensures)) (((c .before .before .before .before .before .before .before .before .take-frame .kept .1 .1 .1 .1 .1 .0))) in omega (arith, f, ((c .before .before .before .before .before .before .before .before .take-frame .kept .1 .1 .1 .1 .1 .0))))
+    (λ c. let g = givenFrame ((c .before .before .before .before .before .before .before .before .before .before .before .before .before .before .before .before .before .before .before .before .before .before .before .args .session)) (((c .before .before .before .before .before .before .before .before .before .before .before .before .before .before .before .before .frame .last .1 .0))) ((c .before .before .before .before .before .before .before .before .before .before .before .before .before .before .before .before .before .before .before .before .before .before .before .args .flash .now)) ((c .before .before .before .before .before .before .before .before .before .before .before .before .before .before .before .before .before .before .before .before .before .before .before .args .sram .now)) ((c .before .before .before .before .before .before .before .before .before .before .before .before .before .before .before .before .before .before .before .before .before .before .before .args .usd .now)) (replicate 363 0) in let l = left ((c .before .before .before .before .before .before .before .before .before .take-frame .result)) (((c .before .before .before .before .before .before .before .before .before .take-frame .last .1 .1 .0))) (((c .before .before .before .before .before .before .before .before .before .take-frame .last .1 .1 .1 .0))) (((c .before .before .before .before .before .before .before .before .before .take-frame .last .1 .1 .1 .1 .0))) (((c .before .before .before .before .before .before .before .before .before .take-frame .last .1 .1 .1 .1 .1 .0))) in let f = took-fits g l ((c .before .before .before .before .before .before .before .before .before .take-frame .ensures)) (((c .before .before .before .before .before .before .before .before .before .take-frame .kept .1 .1 .1 .1 .1 .0))) in sym (length-take-le ((c .before .before .before .before .before .before .before .before .before .take-frame .result .length)) (((c .before .before .before .before .before .before .before .before .before .take-frame .last .1 .1 .1 .1 .1 .0))) (omega (arith, f, ((c .before .before .before .before .before .before .before .before .before .take-frame .kept .1 .1 .1 .1 .1 .0))))))
+    (λ c κs. let g = givenFrame ((c .before .before .before .before .before .before .before .before .before .before .before .before .before .before .before .before .before .before .before .before .before .before .before .before .args .session)) (((c .before .before .before .before .before .before .before .before .before .before .before .before .before .before .before .before .before .frame .last .1 .0))) ((c .before .before .before .before .before .before .before .before .before .before .before .before .before .before .before .before .before .before .before .before .before .before .before .before .args .flash .now)) ((c .before .before .before .before .before .before .before .before .before .before .before .before .before .before .before .before .before .before .before .before .before .before .before .before .args .sram .now)) ((c .before .before .before .before .before .before .before .before .before .before .before .before .before .before .before .before .before .before .before .before .before .before .before .before .args .usd .now)) (replicate 363 0) in let l = left ((c .before .before .before .before .before .before .before .before .before .before .take-frame .result)) (((c .before .before .before .before .before .before .before .before .before .before .take-frame .last .1 .1 .0))) (((c .before .before .before .before .before .before .before .before .before .before .take-frame .last .1 .1 .1 .0))) (((c .before .before .before .before .before .before .before .before .before .before .take-frame .last .1 .1 .1 .1 .0))) (((c .before .before .before .before .before .before .before .before .before .before .take-frame .last .1 .1 .1 .1 .1 .0))) in let f = took-fits g l ((c .before .before .before .before .before .before .before .before .before .before .take-frame .ensures)) (((c .before .before .before .before .before .before .before .before .before .before .take-frame .kept .1 .1 .1 .1 .1 .0))) in let k = length-take-le ((c .before .before .before .before .before .before .before .before .before .before .take-frame .result .length)) (((c .before .before .before .before .before .before .before .before .before .before .take-frame .last .1 .1 .1 .1 .1 .0))) (omega (arith, f, ((c .before .before .before .before .before .before .before .before .before .before .take-frame .kept .1 .1 .1 .1 .1 .0)))) in let o = frame-good ((c .before .before .before .before .before .before .before .before .before .before .before .before .before .before .before .before .before .before .before .before .before .before .before .before .args .rest .now)) ((c .before .before .before .before .before .before .before .before .before .before .before .before .before .before .before .before .before .before .before .before .before .before .before .before .pre .0)) in (ap (λ (r : List ℕ). length r % frameBytes classic) (took-reply g l ((c .before .before .before .before .before .before .before .before .before .before .take-frame .ensures))) ∙ frame-whole 363 (((c .before .before .before .before .before .before .before .before .before .before .before .before .before .before .before .before .before .frame .last .1 .0))) (stateOf ((c .before .before .before .before .before .before .before .before .before .before .before .before .before .before .before .before .before .before .before .before .before .before .before .before .args .session)) ((c .before .before .before .before .before .before .before .before .before .before .before .before .before .before .before .before .before .before .before .before .before .before .before .before .args .flash .now)) ((c .before .before .before .before .before .before .before .before .before .before .before .before .before .before .before .before .before .before .before .before .before .before .before .before .args .sram .now)) ((c .before .before .before .before .before .before .before .before .before .before .before .before .before .before .before .before .before .before .before .before .before .before .before .before .args .usd .now))), omega (arith, k, f, o .long, ((c .before .before .before .before .before .before .before .before .before .before .before .before .before .before .before .before .before .before .before .before .before .before .before .before .pre .1)))))
     (λ c. search needs)
     (λ c. search needs)
     (λ c. search needs)
     (λ c. search needs)
-    (λ c. let g = givenFrame (c .before .before .before .before .before .before .before .before .before .before .before .before .before .before .before .before .before .before .before .before .before .before .before .before .before .before .before .before .before .before .args .session) ((c .before .before .before .before .before .before .before .before .before .before .before .before .before .before .before .before .before .before .before .before .before .before .before .frame .last .1 .0)) (c .before .before .before .before .before .before .before .before .before .before .before .before .before .before .before .before .before .before .before .before .before .before .before .before .before .before .before .before .before .before .args .flash .now) (c .before .before .before .before .before .before .before .before .before .before .before .before .before .before .before .before .before .before .before .before .before .before .before .before .before .before .before .before .before .before .args .sram .now) (c .before .before .before .before .before .before .before .before .before .before .before .before .before .before .before .before .before .before .before .before .before .before .before .before .before .before .before .before .before .before .args .usd .now) (replicate 363 0) in let l = left (c .before .before .before .before .before .before .before .before .before .before .before .before .before .take-frame .result) ((c .before .before .before .before .before .before .before .before .before .before .before .before .before .take-frame .last .1 .1 .0)) ((c .before .before .before .before .before .before .before .before .before .before .before .before .before .take-frame .last .1 .1 .1 .0)) ((c .before .before .before .before .before .before .before .before .before .before .before .before .before .take-frame .last .1 .1 .1 .1 .0)) ((c .before .before .before .before .before .before .before .before .before .before .before .before .before .take-frame .last .1 .1 .1 .1 .1 .0)) in let f = took-fits g l (c .before .before .before .before .before .before .before .before .before .before .before .before .before .take-frame .ensures) ((c .before .before .before .before .before .before .before .before .before .before .before .before .before .take-frame .kept .1 .1 .1 .1 .1 .0)) in let k = length-take-le (c .before .before .before .before .before .before .before .before .before .before .before .before .before .take-frame .result .length) ((c .before .before .before .before .before .before .before .before .before .before .before .before .before .take-frame .last .1 .1 .1 .1 .1 .0)) (omega (arith, f, (c .before .before .before .before .before .before .before .before .before .before .before .before .before .take-frame .kept .1 .1 .1 .1 .1 .0))) in let o = frame-good (c .before .before .before .before .before .before .before .before .before .before .before .before .before .before .before .before .before .before .before .before .before .before .before .before .before .before .before .before .before .before .args .rest .now) (c .before .before .before .before .before .before .before .before .before .before .before .before .before .before .before .before .before .before .before .before .before .before .before .before .before .before .before .before .before .before .pre .0) in let p = stateOf (c .before .before .before .before .before .before .before .before .before .before .before .before .before .before .before .before .before .before .before .before .before .before .before .before .before .before .before .before .before .before .args .session) (c .before .before .before .before .before .before .before .before .before .before .before .before .before .before .before .before .before .before .before .before .before .before .before .before .before .before .before .before .before .before .args .flash .now) (c .before .before .before .before .before .before .before .before .before .before .before .before .before .before .before .before .before .before .before .before .before .before .before .before .before .before .before .before .before .before .args .sram .now) (c .before .before .before .before .before .before .before .before .before .before .before .before .before .before .before .before .before .before .before .before .before .before .before .before .before .before .before .before .before .before .args .usd .now) in let q = stateOf (c .before .before .before .before .before .before .before .before .before .before .before .before .before .take-frame .result .session) ((c .before .before .before .before .before .before .before .before .before .before .before .before .before .take-frame .last .1 .1 .0)) ((c .before .before .before .before .before .before .before .before .before .before .before .before .before .take-frame .last .1 .1 .1 .0)) ((c .before .before .before .before .before .before .before .before .before .before .before .before .before .take-frame .last .1 .1 .1 .1 .0)) in (subst (λ (w : List ℕ). Tells (tells (Framed deskRoom w ∷ []) p) (c .before .before .before .before .before .before .before .before .before .before .before .before .before .before .before .before .before .before .before .before .before .before .before .before .before .before .before .before .before .before .args .at) (c .before .before .before .before .before .before .before .before .before .before .before .before .before .before .before .before .before .before .before .before .before .before .before .before .before .before .before .before .before .before .args .out .now) (c .before .before .frames .result) ((c .before .before .frames .last .1 .0)) q) (c .before .before .before .before .before .before .before .before .before .before .before .before .before .before .before .before .before .before .before .before .before .before .before .frame .ensures) (one-call (Framed deskRoom ((c .before .before .before .before .before .before .before .before .before .before .before .before .before .before .before .before .before .before .before .before .before .before .before .frame .last .1 .0))) p (c .before .before .before .before .before .before .before .before .before .before .before .before .before .before .before .before .before .before .before .before .before .before .before .before .before .before .before .before .before .before .args .at) (c .before .before .frames .result) (c .before .before .before .before .before .before .before .before .before .before .before .before .before .before .before .before .before .before .before .before .before .before .before .before .before .before .before .before .before .before .args .out .now) ((c .before .before .frames .last .1 .0)) q (input-told (λ (n : ℕ). Framed n ((c .before .before .before .before .before .before .before .before .before .before .before .before .before .before .before .before .before .before .before .before .before .before .before .frame .last .1 .0))) (c .before .before .before .before .before .before .before .before .before .before .before .before .before .before .before .before .before .before .before .before .before .before .before .before .before .before .before .before .before .before .args .session) (c .before .before .before .before .before .before .before .before .before .before .before .before .before .before .before .before .before .before .before .before .before .before .before .before .before .before .before .before .before .before .args .flash .now) (c .before .before .before .before .before .before .before .before .before .before .before .before .before .before .before .before .before .before .before .before .before .before .before .before .before .before .before .before .before .before .args .sram .now) (c .before .before .before .before .before .before .before .before .before .before .before .before .before .before .before .before .before .before .before .before .before .before .before .before .before .before .before .before .before .before .args .usd .now) (replicate 363 0) refl l (c .before .before .before .before .before .before .before .before .before .before .before .before .before .take-frame .ensures) (c .before .before .before .before .before .before .before .before .before .before .before .before .before .before .before .before .before .before .before .before .before .before .before .before .before .before .before .before .before .before .args .at) (c .before .before .frames .result) (c .before .before .before .before .before .before .before .before .before .before .before .before .before .before .before .before .before .before .before .before .before .before .before .before .before .before .before .before .before .before .args .out .now) ((c .before .before .frames .last .1 .0)) (c .before .before .frames .ensures .0) (c .before .before .frames .ensures .2))), omega (arith, (c .before .before .frames .ensures .1), k, f, o .long))))
+    (λ c. let g = givenFrame ((c .before .before .before .before .before .before .before .before .before .before .before .before .before .before .before .before .before .before .before .before .before .before .before .before .before .before .before .args .session)) (((c .before .before .before .before .before .before .before .before .before .before .before .before .before .before .before .before .before .before .before .before .frame .last .1 .0))) ((c .before .before .before .before .before .before .before .before .before .before .before .before .before .before .before .before .before .before .before .before .before .before .before .before .before .before .before .args .flash .now)) ((c .before .before .before .before .before .before .before .before .before .before .before .before .before .before .before .before .before .before .before .before .before .before .before .before .before .before .before .args .sram .now)) ((c .before .before .before .before .before .before .before .before .before .before .before .before .before .before .before .before .before .before .before .before .before .before .before .before .before .before .before .args .usd .now)) (replicate 363 0) in let l = left ((c .before .before .before .before .before .before .before .before .before .before .before .before .before .take-frame .result)) (((c .before .before .before .before .before .before .before .before .before .before .before .before .before .take-frame .last .1 .1 .0))) (((c .before .before .before .before .before .before .before .before .before .before .before .before .before .take-frame .last .1 .1 .1 .0))) (((c .before .before .before .before .before .before .before .before .before .before .before .before .before .take-frame .last .1 .1 .1 .1 .0))) (((c .before .before .before .before .before .before .before .before .before .before .before .before .before .take-frame .last .1 .1 .1 .1 .1 .0))) in let f = took-fits g l ((c .before .before .before .before .before .before .before .before .before .before .before .before .before .take-frame .ensures)) (((c .before .before .before .before .before .before .before .before .before .before .before .before .before .take-frame .kept .1 .1 .1 .1 .1 .0))) in let k = length-take-le ((c .before .before .before .before .before .before .before .before .before .before .before .before .before .take-frame .result .length)) (((c .before .before .before .before .before .before .before .before .before .before .before .before .before .take-frame .last .1 .1 .1 .1 .1 .0))) (omega (arith, f, ((c .before .before .before .before .before .before .before .before .before .before .before .before .before .take-frame .kept .1 .1 .1 .1 .1 .0)))) in let o = frame-good ((c .before .before .before .before .before .before .before .before .before .before .before .before .before .before .before .before .before .before .before .before .before .before .before .before .before .before .before .args .rest .now)) ((c .before .before .before .before .before .before .before .before .before .before .before .before .before .before .before .before .before .before .before .before .before .before .before .before .before .before .before .pre .0)) in let p = stateOf ((c .before .before .before .before .before .before .before .before .before .before .before .before .before .before .before .before .before .before .before .before .before .before .before .before .before .before .before .args .session)) ((c .before .before .before .before .before .before .before .before .before .before .before .before .before .before .before .before .before .before .before .before .before .before .before .before .before .before .before .args .flash .now)) ((c .before .before .before .before .before .before .before .before .before .before .before .before .before .before .before .before .before .before .before .before .before .before .before .before .before .before .before .args .sram .now)) ((c .before .before .before .before .before .before .before .before .before .before .before .before .before .before .before .before .before .before .before .before .before .before .before .before .before .before .before .args .usd .now)) in let q = stateOf ((c .before .before .before .before .before .before .before .before .before .before .before .before .before .take-frame .result .session)) (((c .before .before .before .before .before .before .before .before .before .before .before .before .before .take-frame .last .1 .1 .0))) (((c .before .before .before .before .before .before .before .before .before .before .before .before .before .take-frame .last .1 .1 .1 .0))) (((c .before .before .before .before .before .before .before .before .before .before .before .before .before .take-frame .last .1 .1 .1 .1 .0))) in (subst (λ (w : List ℕ). Tells (tells (Framed deskRoom w ∷ []) p) ((c .before .before .before .before .before .before .before .before .before .before .before .before .before .before .before .before .before .before .before .before .before .before .before .before .before .before .before .args .at)) ((c .before .before .before .before .before .before .before .before .before .before .before .before .before .before .before .before .before .before .before .before .before .before .before .before .before .before .before .args .out .now)) ((c .before .before .frames .result)) (((c .before .before .frames .last .1 .0))) q) ((c .before .before .before .before .before .before .before .before .before .before .before .before .before .before .before .before .before .before .before .before .frame .ensures)) (one-call (Framed deskRoom (((c .before .before .before .before .before .before .before .before .before .before .before .before .before .before .before .before .before .before .before .before .frame .last .1 .0)))) p ((c .before .before .before .before .before .before .before .before .before .before .before .before .before .before .before .before .before .before .before .before .before .before .before .before .before .before .before .args .at)) ((c .before .before .frames .result)) ((c .before .before .before .before .before .before .before .before .before .before .before .before .before .before .before .before .before .before .before .before .before .before .before .before .before .before .before .args .out .now)) (((c .before .before .frames .last .1 .0))) q (input-told (λ (n : ℕ). Framed n (((c .before .before .before .before .before .before .before .before .before .before .before .before .before .before .before .before .before .before .before .before .frame .last .1 .0)))) ((c .before .before .before .before .before .before .before .before .before .before .before .before .before .before .before .before .before .before .before .before .before .before .before .before .before .before .before .args .session)) ((c .before .before .before .before .before .before .before .before .before .before .before .before .before .before .before .before .before .before .before .before .before .before .before .before .before .before .before .args .flash .now)) ((c .before .before .before .before .before .before .before .before .before .before .before .before .before .before .before .before .before .before .before .before .before .before .before .before .before .before .before .args .sram .now)) ((c .before .before .before .before .before .before .before .before .before .before .before .before .before .before .before .before .before .before .before .before .before .before .before .before .before .before .before .args .usd .now)) (replicate 363 0) refl l ((c .before .before .before .before .before .before .before .before .before .before .before .before .before .take-frame .ensures)) ((c .before .before .before .before .before .before .before .before .before .before .before .before .before .before .before .before .before .before .before .before .before .before .before .before .before .before .before .args .at)) ((c .before .before .frames .result)) ((c .before .before .before .before .before .before .before .before .before .before .before .before .before .before .before .before .before .before .before .before .before .before .before .before .before .before .before .args .out .now)) (((c .before .before .frames .last .1 .0))) ((c .before .before .frames .ensures .0)) ((c .before .before .frames .ensures .2)))), omega (arith, ((c .before .before .frames .ensures .1)), k, f, o .long))))
