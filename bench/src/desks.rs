@@ -9,7 +9,7 @@ use std::time::Instant;
 use crate::workload::Workload;
 
 /// How often each program is run; the shortest run counts.
-const RUNS: usize = 3;
+const RUNS: usize = 15;
 
 /// The bytes of a megabyte.
 const MEGABYTE: usize = 1_000_000;
