@@ -94,7 +94,7 @@ fn go_on(
 {
     let next = end_line(desk, line, flash, sram, usd, out);
     let session = next.session;
-    let gathered = pass::gather_lines(session, rest, flash.len(), sram.len(), usd.len());
+    let gathered = pass::gather(session, rest, flash.len(), sram.len(), usd.len());
     let passed = gathered.session;
     let lines = gathered.lines;
     let end = pass::nod(lines, out, next.end);

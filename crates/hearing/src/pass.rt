@@ -47,13 +47,7 @@ fn silent_line(step: u8, taken: usize, expected: usize, text: &[u8], new: &mut [
 }
 
 // Takes at once the lines at the front of a text that write frames which the session only gathers, given the lengths of the memories.
-pub fn gather_lines(
-    session: Session,
-    text: &[u8],
-    flash: usize,
-    sram: usize,
-    usd: usize,
-) -> Gathered
+pub fn gather(session: Session, text: &[u8], flash: usize, sram: usize, usd: usize) -> Gathered
     ensures { λ r. ⌜ PassesLines session flash sram usd (now (text .entry)) (r .session) (r .lines) (r .characters) ⌝ }
 {
     let mut here = session;

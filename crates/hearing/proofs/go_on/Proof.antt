@@ -13,10 +13,10 @@ go-on-spec =
     (tie.spec
     (λ c κs. ((c .before .before .before .before .before .before .before .before .before .before .pre .0), omega (arith, (c .before .before .before .before .before .before .before .before .before .before .pre .1)), omega (arith, (c .before .before .before .before .before .before .before .before .before .before .pre .2))))
     (λ c κs. search needs)
-    (λ c κs. let p = (c .before .before .gather-lines .ensures) in omega (arith, p .few, p .within, (c .before .before .before .before .before .before .before .before .before .before .before .before .end-line .ensures .1 .0), (c .before .before .before .before .before .before .before .before .before .before .before .before .end-line .kept .1 .1 .1 .1 .1 .0), (c .before .before .before .before .before .before .before .before .before .before .before .before .before .before .before .before .before .before .before .before .before .before .before .pre .2)))
-    (λ c. let p = (c .before .before .before .before .before .before .gather-lines .ensures) in omega (arith, p .few, p .within, (c .before .before .before .before .before .before .before .before .before .before .before .before .before .before .before .before .end-line .ensures .1 .2), (c .before .before .before .before .before .before .before .before .before .before .before .before .before .before .before .before .before .before .before .before .before .before .before .before .before .before .before .pre .1)))
+    (λ c κs. let p = (c .before .before .gather .ensures) in omega (arith, p .few, p .within, (c .before .before .before .before .before .before .before .before .before .before .before .before .end-line .ensures .1 .0), (c .before .before .before .before .before .before .before .before .before .before .before .before .end-line .kept .1 .1 .1 .1 .1 .0), (c .before .before .before .before .before .before .before .before .before .before .before .before .before .before .before .before .before .before .before .before .before .before .before .pre .2)))
+    (λ c. let p = (c .before .before .before .before .before .before .gather .ensures) in omega (arith, p .few, p .within, (c .before .before .before .before .before .before .before .before .before .before .before .before .before .before .before .before .end-line .ensures .1 .2), (c .before .before .before .before .before .before .before .before .before .before .before .before .before .before .before .before .before .before .before .before .before .before .before .before .before .before .before .pre .1)))
     (λ c. (c .before .before .before .before .before .before .before .before .before .before .before .before .before .before .before .before .end-line .kept .1 .1 .0))
     (λ c. (c .before .before .before .before .before .before .before .before .before .before .before .before .before .before .before .before .end-line .kept .1 .1 .1 .0))
     (λ c. (c .before .before .before .before .before .before .before .before .before .before .before .before .before .before .before .before .end-line .kept .1 .1 .1 .1 .0))
     (λ c. search needs)
-    (λ c. let p = (c .before .before .before .before .before .before .gather-lines .ensures) in let b = (c .before .before .before .before .before .before .before .before .before .before .before .before .before .before .before .before .end-line .ensures .1) in let d = deskOf (c .before .before .before .before .before .before .before .before .before .before .before .before .before .before .before .before .before .before .before .before .before .before .before .before .before .before .before .args .desk) (c .before .before .before .before .before .before .before .before .before .before .before .before .before .before .before .before .before .before .before .before .before .before .before .before .before .before .before .args .line .now) (c .before .before .before .before .before .before .before .before .before .before .before .before .before .before .before .before .before .before .before .before .before .before .before .before .before .before .before .args .flash .now) (c .before .before .before .before .before .before .before .before .before .before .before .before .before .before .before .before .before .before .before .before .before .before .before .before .before .before .before .args .sram .now) (c .before .before .before .before .before .before .before .before .before .before .before .before .before .before .before .before .before .before .before .before .before .before .before .before .before .before .before .args .usd .now) in (rw ((c .before .before .before .nod .ensures .1)) (gone-on d (c .before .before .before .before .before .before .before .before .before .before .before .before .before .before .before .before .before .before .before .before .before .before .before .before .before .before .before .args .rest .now) (c .before .before .before .before .before .before .before .before .before .before .before .before .before .before .before .before .end-line .result .session) (c .before .before .before .before .before .before .gather-lines .result .session) (c .before .before .before .before .before .before .before .before .before .before .before .before .before .before .before .before .end-line .last .1 .1 .0) (c .before .before .before .before .before .before .before .before .before .before .before .before .before .before .before .before .end-line .last .1 .1 .1 .0) (c .before .before .before .before .before .before .before .before .before .before .before .before .before .before .before .before .end-line .last .1 .1 .1 .1 .0) (c .before .before .before .before .before .before .before .before .before .before .before .before .before .before .before .before .end-line .result .lines) (c .before .before .before .before .before .before .gather-lines .result .lines) (c .before .before .before .before .before .before .gather-lines .result .characters) (c .before .before .before .before .before .before .before .before .before .before .before .before .before .before .before .before .before .before .before .before .before .before .before .before .before .before .before .args .desk .end) (c .before .before .before .before .before .before .before .before .before .before .before .before .before .before .before .before .end-line .result .end) (c .before .before .before .nod .result) (c .before .before .before .before .before .before .before .before .before .before .before .before .before .before .before .before .before .before .before .before .before .before .before .before .before .before .before .args .out .now) (c .before .before .before .before .before .before .before .before .before .before .before .before .before .before .before .before .end-line .last .1 .1 .1 .1 .1 .0) (rw (b .1) at (c .before .before .before .before .before .before .before .before .before .before .before .before .before .before .before .before .end-line .ensures .0)) p (c .before .before .before .nod .ensures .0)), (p .within, refl, omega (arith, b .2, p .few), omega (arith, b .0, p .few, (c .before .before .before .nod .ensures .0))))))
+    (λ c. let p = (c .before .before .before .before .before .before .gather .ensures) in let b = (c .before .before .before .before .before .before .before .before .before .before .before .before .before .before .before .before .end-line .ensures .1) in let d = deskOf (c .before .before .before .before .before .before .before .before .before .before .before .before .before .before .before .before .before .before .before .before .before .before .before .before .before .before .before .args .desk) (c .before .before .before .before .before .before .before .before .before .before .before .before .before .before .before .before .before .before .before .before .before .before .before .before .before .before .before .args .line .now) (c .before .before .before .before .before .before .before .before .before .before .before .before .before .before .before .before .before .before .before .before .before .before .before .before .before .before .before .args .flash .now) (c .before .before .before .before .before .before .before .before .before .before .before .before .before .before .before .before .before .before .before .before .before .before .before .before .before .before .before .args .sram .now) (c .before .before .before .before .before .before .before .before .before .before .before .before .before .before .before .before .before .before .before .before .before .before .before .before .before .before .before .args .usd .now) in (rw ((c .before .before .before .nod .ensures .1)) (gone-on d (c .before .before .before .before .before .before .before .before .before .before .before .before .before .before .before .before .before .before .before .before .before .before .before .before .before .before .before .args .rest .now) (c .before .before .before .before .before .before .before .before .before .before .before .before .before .before .before .before .end-line .result .session) (c .before .before .before .before .before .before .gather .result .session) (c .before .before .before .before .before .before .before .before .before .before .before .before .before .before .before .before .end-line .last .1 .1 .0) (c .before .before .before .before .before .before .before .before .before .before .before .before .before .before .before .before .end-line .last .1 .1 .1 .0) (c .before .before .before .before .before .before .before .before .before .before .before .before .before .before .before .before .end-line .last .1 .1 .1 .1 .0) (c .before .before .before .before .before .before .before .before .before .before .before .before .before .before .before .before .end-line .result .lines) (c .before .before .before .before .before .before .gather .result .lines) (c .before .before .before .before .before .before .gather .result .characters) (c .before .before .before .before .before .before .before .before .before .before .before .before .before .before .before .before .before .before .before .before .before .before .before .before .before .before .before .args .desk .end) (c .before .before .before .before .before .before .before .before .before .before .before .before .before .before .before .before .end-line .result .end) (c .before .before .before .nod .result) (c .before .before .before .before .before .before .before .before .before .before .before .before .before .before .before .before .before .before .before .before .before .before .before .before .before .before .before .args .out .now) (c .before .before .before .before .before .before .before .before .before .before .before .before .before .before .before .before .end-line .last .1 .1 .1 .1 .1 .0) (rw (b .1) at (c .before .before .before .before .before .before .before .before .before .before .before .before .before .before .before .before .end-line .ensures .0)) p (c .before .before .before .nod .ensures .0)), (p .within, refl, omega (arith, b .2, p .few), omega (arith, b .0, p .few, (c .before .before .before .nod .ensures .0))))))

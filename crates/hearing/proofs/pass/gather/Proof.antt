@@ -11,8 +11,8 @@ use Rattle.boot.proofs.Sound.{sound-taken, sound-expected}
 use Rattle.gathering.specs.Gathering.{HearsFrames}
 use Rattle.hearing.specs.Passing.{PassesLines}
 use Rattle.hearing.proofs.Passing.{none-passed, went-on, few-brought}
-use Rattle.hearing.proofs.pass.gather_lines.Statement.{statement}
-use Rattle.hearing.proofs.pass.gather_lines.Tie as tie
+use Rattle.hearing.proofs.pass.gather.Statement.{statement}
+use Rattle.hearing.proofs.pass.gather.Tie as tie
 
 abbrev Inv-loop : tie.InvT-loop
 Inv-loop text flash sram usd here₀ lines₀ i₀ hears n new₀ here lines i new = (i ≤ n) × (length new ≡ 8) × HearsFrames here flash sram usd × PassesLines here₀ flash sram usd text here lines i
@@ -20,8 +20,8 @@ Inv-loop text flash sram usd here₀ lines₀ i₀ hears n new₀ here lines i n
 abbrev μ-loop : tie.MeasureT-loop
 μ-loop text flash sram usd here₀ lines₀ i₀ hears n new₀ here lines i new = n - i
 
-pub gather-lines-spec : {M : Type 1} → statement M
-gather-lines-spec =
+pub gather-spec : {M : Type 1} → statement M
+gather-spec =
     tie.close
     (tie.spec
     Inv-loop
