@@ -22,7 +22,7 @@ use words::FIELD;
 use words::SPACE;
 
 // The room for a reply: what either carrier needs.
-const ROOM: usize = can::say::ROOM;
+const ROOM: usize = reply::in_frames::ROOM;
 
 // The characters that begin an answer.
 pub const ANSWERED: u8 = b'>';

@@ -1,81 +1,55 @@
 -- An input that was decided, said and carried out leaves what the outcome says.
-use mathlib.Core.Path.{_≡_, sym, ap, subst, _∙_}
-use mathlib.Core.List.{List, [], _∷_, _++_}
-use Prim.Native.Nat.{ℕ, _<_}
+use mathlib.Core.Path.{_≡_, ap, subst, _∙_}
+use mathlib.Core.List.{List, _++_}
+use Prim.Native.Nat.{ℕ}
 use lib.Dec.{T, eqb}
-use lib.ListN.{length, getD, drop}
+use lib.ListN.{length, drop}
 use lib.Seq.{take-length}
-use Rattle.board.specs.Quantities.{addressBytes}
 use Rattle.memories.specs.Memories.{Memories, memories}
 use Rattle.memories.specs.Effects.{effect}
 use Rattle.command.specs.Progress.{progressAt, stagedWith}
 use Rattle.command.specs.Says.{says, Said}
 use Rattle.command.specs.declared.Decision.{Decision}
-use Rattle.rules.proofs.Good.{Good}
 use Rattle.can.specs.Steps as C
 use Rattle.can.specs.Conversation as CC
 use Rattle.frames.specs.Frames.{classic, frameIn, frameOf, isFrame, carried, framed}
 use Rattle.frames.proofs.Frames.{carried-length}
-use Rattle.boot.specs.Session.{progress, sound, gathered, after}
-use Rattle.boot.specs.Decide.{connected, decideByte, decideFrame}
-use Rattle.boot.specs.Calls.{Input, Byte, Framed, carrierOf, brings, commandsOf, decide, sent, perform}
-use Rattle.boot.specs.Promise.{left, stateOf, Performed, Leaves}
+use Rattle.boot.specs.Session.{progress, gathered, after}
+use Rattle.boot.specs.Decide.{connected, decideFrame}
+use Rattle.boot.specs.Calls.{Input, carrierOf, brings, commandsOf, decide, sent, perform}
+use Rattle.boot.specs.Promise.{left, stateOf, acceptedTaken, Leaves}
 use Rattle.boot.specs.declared.Carrier.the-variants.{Can}
 use Rattle.boot.specs.declared.Session.{Session}
 use Rattle.boot.specs.declared.Taken.{Taken}
-use Rattle.boot.proofs.Good.{byte-good, frame-good}
 
-module _ (i : Input) (s : Session) (usd : List ℕ) (t : Session) (et : t ≡ gathered (brings i) s) (d : Decision) (ed : d ≡ decide i s usd) where
-  -- what can be said and carried out can be with the session as it was gathered and the decision as it was made
-  pub input-can : Good (gathered (brings i) s .staged) (decide i s usd) → Good (t .staged) d
-  input-can g =
-      subst (λ (e : Decision). Good (t .staged) e) (sym ed)
-      (subst (λ (z : Session). Good (z .staged) (decide i s usd)) (sym et) g)
+module _ (i : Input) (s : Session) (usd : List ℕ) (t : Session) (et : t ≡ gathered (brings i) s) (d : Decision) (ed : d ≡ decide i s usd)
+    (flash sram buffer : List ℕ) where
+  -- the bytes that a decision has said
+  abbrev pub said : Decision → List ℕ
+  said e = sent i s (says (commandsOf i) (e .reply) (memories flash sram usd))
 
-  -- and that is what the outcome says
-  module _ (flash sram buffer : List ℕ) where
-    -- the bytes that a decision has said
-    abbrev pub said : Decision → List ℕ
-    said e = sent i s (says (commandsOf i) (e .reply) (memories flash sram usd))
-
-    pub input-leaves : {count : ℕ} {r : Taken} {flash' sram' usd' buffer' : List ℕ}
-        → Said (said d) count buffer buffer'
-        → Performed (carrierOf i) s t d count (memories flash sram usd) r (memories flash' sram' usd')
-        → Leaves (perform i (stateOf s flash sram usd) (decide i s usd)) buffer (left r flash' sram' usd' buffer')
-    unfolding perform
-    input-leaves {flash' = flash'} {sram' = sram'} {usd' = usd'} es p = record {
-      number = ap (λ (z : Taken). z .number) (p .result);
-      count = ap (λ (z : Taken). z .length) (p .result) ∙ es .count ∙ ap (λ (e : Decision). length (said e)) ed;
-      session =
-          ap (λ (z : Taken). z .session) (p .result) ∙ ap (λ (z : Session). after (carrierOf i) z (d .next) s) et
-          ∙ ap (λ (e : Decision). after (carrierOf i) (gathered (brings i) s) (e .next) s) ed;
-      flash = ap (λ (z : Memories). z .flash) carried;
-      sram = ap (λ (z : Memories). z .sram) carried;
-      usd = ap (λ (z : Memories). z .usd) carried;
-      buffer = es .buffer ∙ ap (λ (e : Decision). said e ++ drop (length (said e)) buffer) ed;
-    }
-      where
-        carried : memories flash' sram' usd' ≡ effect (decide i s usd .change) (gathered (brings i) s .staged) (memories flash sram usd)
-        carried =
-            p .memories ∙ ap (λ (z : Session). effect (d .change) (z .staged) (memories flash sram usd)) et
-            ∙ ap (λ (e : Decision). effect (e .change) (gathered (brings i) s .staged) (memories flash sram usd)) ed
-
--- ---- what a byte and a frame decide, with the session as it was gathered
-
--- a byte's can be said and carried out, where the first staged byte is below 256
-pub byte-can : (room b : ℕ) (s : Session) (usd : List ℕ) (t : Session) → t ≡ gathered (b ∷ []) s → (d : Decision) → d ≡ decideByte s usd b
-    → T (sound s) → getD (t .staged) 0 0 < 256 → Good (t .staged) d
-unfolding decide
-byte-can room b s usd t et d ed k h =
-    input-can (Byte room b) s usd t et d ed (byte-good s usd b k (subst (λ (z : Session). getD (z .staged) 0 0 < 256) et h) .holds)
-
--- a frame's can be, where the data byte behind an address is below 256
-pub frame-can : (room : ℕ) (l : List ℕ) (s : Session) (usd : List ℕ) (t : Session) → t ≡ gathered (carried (frameIn l)) s
-    → (d : Decision) → d ≡ decideFrame s usd (frameIn l)
-    → T (sound s) → getD (carried (frameIn l)) addressBytes 0 < 256 → Good (t .staged) d
-unfolding decide
-frame-can room l s usd t et d ed k h =
-    input-can (Framed room l) s usd t et d ed (frame-good s usd (frameIn l) k h .holds)
+  pub input-leaves : {count : ℕ} {r : Taken} {flash' sram' usd' buffer' : List ℕ}
+      → Said (said d) count buffer buffer'
+      → memories flash' sram' usd' ≡ effect (d .change) (t .staged) (memories flash sram usd)
+      → r ≡ acceptedTaken (carrierOf i) s t (d .next) count
+      → Leaves (perform i (stateOf s flash sram usd) (decide i s usd)) buffer (left r flash' sram' usd' buffer')
+  unfolding perform
+  input-leaves {flash' = flash'} {sram' = sram'} {usd' = usd'} es em er = record {
+    number = ap (λ (z : Taken). z .number) er;
+    count = ap (λ (z : Taken). z .length) er ∙ es .count ∙ ap (λ (e : Decision). length (said e)) ed;
+    session =
+        ap (λ (z : Taken). z .session) er ∙ ap (λ (z : Session). after (carrierOf i) z (d .next) s) et
+        ∙ ap (λ (e : Decision). after (carrierOf i) (gathered (brings i) s) (e .next) s) ed;
+    flash = ap (λ (z : Memories). z .flash) carried;
+    sram = ap (λ (z : Memories). z .sram) carried;
+    usd = ap (λ (z : Memories). z .usd) carried;
+    buffer = es .buffer ∙ ap (λ (e : Decision). said e ++ drop (length (said e)) buffer) ed;
+  }
+    where
+      carried : memories flash' sram' usd' ≡ effect (decide i s usd .change) (gathered (brings i) s .staged) (memories flash sram usd)
+      carried =
+          em ∙ ap (λ (z : Session). effect (d .change) (z .staged) (memories flash sram usd)) et
+          ∙ ap (λ (e : Decision). effect (e .change) (gathered (brings i) s .staged) (memories flash sram usd)) ed
 
 -- a frame decides what its ID and the data bytes that count do
 pub frame-decided : (s : Session) (usd l : List ℕ) → T (isFrame classic l)

@@ -1,15 +1,16 @@
 -- What an accepted call has, and what an accepted and a refused call leave.
-use mathlib.Core.Path.{_≡_, refl, sym, ap, subst}
+use mathlib.Core.Path.{_≡_, refl, sym, ap, subst, _∙_}
 use mathlib.Core.Bool.{Bool, true, false, not}
 use mathlib.Core.List.{[], _∷_}
 use denote.Enum.Declared.{tagOf}
+use borrow.Author.Tests.{not-false}
 use types.Run.{OneOf, miss}
 use lib.Dec.{T}
 use Rattle.words.specs.Choice.{if_then_else_}
 use Rattle.boot.specs.Session.{on, sound}
 use Rattle.boot.specs.Causes.{accepts, causeOf}
-use Rattle.boot.specs.Calls.{causeFor, call}
-use Rattle.boot.specs.Promise.{Given, Left, left, performed, refusedTaken, outcome, Leaves, Took}
+use Rattle.boot.specs.Calls.{Outcome, causeFor, decide, perform, call}
+use Rattle.boot.specs.Promise.{Given, Left, left, refusedTaken, outcome, Leaves, Took}
 use Rattle.boot.specs.declared.Carrier.the-variants.{Running}
 use Rattle.boot.specs.declared.Cause.{Cause}
 use Rattle.boot.specs.declared.Cause.the-variants.{Accepted, WrongMemory, ShortReply, BadFrame, UnsoundSession, BoardRunning}
@@ -48,6 +49,15 @@ accepted-clear m r f s h = by-tests m r f (sound s) (subst T (sym h) tt)
     by-tests true true false k h = absurd h
     by-tests true false f k h = absurd h
     by-tests false r f k h = absurd h
+
+-- the same of a call that was not turned away
+pub clear : (m r f : Bool) (s : Session) {c : Cause} (accepted : Bool) → c ≡ causeOf m r f s → accepted ≡ accepts c → not accepted ≡ false
+    → Clear m r f (sound s)
+clear m r f s accepted ec ea h = accepted-clear m r f s (ap accepts (sym ec) ∙ sym ea ∙ not-false accepted h)
+
+-- what comes of a call where it is accepted
+abbrev pub performed : Given → Outcome
+performed g = perform (g .input) (g .state) (decide (g .input) (g .state .session) (g .state .memories .usd))
 
 module _ (g : Given) (c : Cause) (ec : c ≡ causeFor (g .input) (g .state)) where
   -- an accepted call leaves what its decision does

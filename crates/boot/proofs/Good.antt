@@ -1,9 +1,11 @@
 -- What an input decides in a sound session can be carried out and said.
+use mathlib.Core.Path.{_≡_, sym, subst}
 use mathlib.Core.Bool.{Bool}
 use mathlib.Core.List.{List, [], _∷_}
 use Prim.Native.Nat.{ℕ, _<_}
 use lib.Dec.{T}
 use lib.ListN.{getD}
+use lib.Seq.{take-length}
 use Rattle.board.specs.Quantities.{addressBytes}
 use Rattle.command.specs.Progress.{stagedWith}
 use Rattle.command.specs.declared.Decision.{Decision}
@@ -13,9 +15,9 @@ use Rattle.uart.specs.Steps as U
 use Rattle.uart.specs.Conversation as UC
 use Rattle.uart.proofs.Good.{complete-good}
 use Rattle.can.specs.Steps as C
-use Rattle.frames.specs.Frames.{Frame, carried}
+use Rattle.frames.specs.Frames.{Frame, frameOf, carried}
 use Rattle.can.proofs.Good as CG
-use Rattle.boot.specs.Session.{on, progress, sound}
+use Rattle.boot.specs.Session.{on, progress, sound, gathered}
 use Rattle.boot.specs.Decide.{connected, decideByte, decideFrame}
 use Rattle.boot.specs.declared.Carrier.{Carrier}
 use Rattle.boot.specs.declared.Carrier.the-variants.{Uart, Can}
@@ -44,3 +46,24 @@ unfolding decideFrame
 frame-good s usd f t h =
     connected-good (stagedWith (progress s) (carried f)) Can s _
     (λ o. CG.heard-good (C.stepOf (s .step)) (progress s) (can-expects s t o) usd f h)
+
+-- ---- and so it can with the session as it was gathered and the decision as it was made
+
+same-good : {g t : Session} {e d : Decision} → t ≡ g → d ≡ e → Good (g .staged) e → Good (t .staged) d
+same-good {t = t} {e = e} et ed h =
+    subst (λ (x : Decision). Good (t .staged) x) (sym ed) (subst (λ (z : Session). Good (z .staged) e) (sym et) h)
+
+-- a byte's, where the first staged byte is below 256
+pub byte-can : (b : ℕ) (s : Session) (usd : List ℕ) {t : Session} {d : Decision} → t ≡ gathered (b ∷ []) s → d ≡ decideByte s usd b
+    → T (sound s) → getD (t .staged) 0 0 < 256 → Good (t .staged) d
+byte-can b s usd et ed k h =
+    same-good et ed (byte-good s usd b k (subst (λ (z : Session). getD (z .staged) 0 0 < 256) et h) .holds)
+
+-- a frame's, where the data byte behind an address is below 256
+pub frame-can : (id : ℕ) (c : List ℕ) (s : Session) (usd : List ℕ) {t : Session} {d : Decision} → t ≡ gathered c s
+    → d ≡ decideFrame s usd (frameOf id c) → T (sound s) → getD c addressBytes 0 < 256 → Good (t .staged) d
+frame-can id c s usd et ed k h =
+    let whole = take-length c in
+    same-good et ed
+    (subst (λ (b : List ℕ). Good (stagedWith (progress s) b) (decideFrame s usd (frameOf id c))) whole
+    (frame-good s usd (frameOf id c) k (subst (λ (b : List ℕ). getD b addressBytes 0 < 256) (sym whole) h) .holds))

@@ -3,13 +3,12 @@ use Prim.Native.Nat.{ℕ}
 use mathlib.Core.Path.{_≡_}
 use mathlib.Core.List.{List, _++_}
 use lib.ListN.{length, drop}
-use Rattle.memories.specs.Memories.{Memories, memories}
-use Rattle.memories.specs.Effects.{effect}
-use Rattle.command.specs.declared.Decision.{Decision}
+use Rattle.memories.specs.Memories.{memories}
+use Rattle.command.specs.declared.Next.{Next}
 use Rattle.boot.specs.Session as S
 use Rattle.boot.specs.Session.{fresh}
 use Rattle.boot.specs.Causes.{causeNo}
-use Rattle.boot.specs.Calls.{State, Input, Byte, Framed, Outcome, decide, perform, call}
+use Rattle.boot.specs.Calls.{State, Input, Byte, Framed, Outcome, call}
 use Rattle.boot.specs.declared.Carrier.{Carrier}
 use Rattle.boot.specs.declared.Cause.{Cause}
 use Rattle.boot.specs.declared.Cause.the-variants.{Accepted}
@@ -64,9 +63,9 @@ givenFrame s frame flash sram usd buffer = record {
 unfoldable pub outcome : Given → Outcome
 outcome g = call (g .input) (g .state)
 
--- what comes of it where it is accepted
-abbrev pub performed : Given → Outcome
-performed g = perform (g .input) (g .state) (decide (g .input) (g .state .session) (g .state .memories .usd))
+-- what an accepted call hands back: the carrier, the session, the session with the input's bytes, what comes next, the reply's length
+abbrev pub acceptedTaken : Carrier → Session → Session → Next → ℕ → Taken
+acceptedTaken c s t next n = record { number = causeNo Accepted; length = n; session = S.after c t next s }
 
 -- what a refused call hands back
 abbrev pub refusedTaken : Cause → Session → Taken
@@ -81,11 +80,6 @@ pub record Leaves (o : Outcome) (lent : List ℕ) (l : Left) : Type 0 where
   pub sram : l .sram ≡ o .state .memories .sram
   pub usd : l .usd ≡ o .state .memories .usd
   pub buffer : l .buffer ≡ o .reply ++ drop (length (o .reply)) lent
-
--- a decision is carried out after a reply of so many bytes, on a carrier, with the session that has the input's bytes
-pub record Performed (c : Carrier) (s t : Session) (d : Decision) (n : ℕ) (m : Memories) (r : Taken) (after : Memories) : Type 0 where
-  pub result : r ≡ record { number = causeNo Accepted; length = n; session = S.after c t (d .next) s }
-  pub memories : after ≡ effect (d .change) (t .staged) m
 
 -- the promise of the two taking calls
 abbrev pub Took : Given → Left → Type 0

@@ -1,10 +1,13 @@
 ghost use mathlib.Core.Path.{_≡_};
 ghost use mathlib.Core.List.{[], _∷_};
-ghost use Prim.Native.Nat.{_≤_};
+ghost use Prim.Native.Nat.{_≤_, _<_};
 ghost use lib.Dec.{T};
-ghost use lib.ListN.{length};
+ghost use lib.ListN.{length, getD};
 ghost use Rattle.board.specs.Board.{extentOf};
+ghost use Rattle.board.specs.Quantities.{addressBytes};
 ghost use Rattle.board.specs.declared.Region.the-variants.{Usd};
+ghost use Rattle.memories.specs.Effects.{fits};
+ghost use Rattle.command.specs.Says.{sayable};
 ghost use Rattle.frames.specs.Frames.{classic, frameOf};
 ghost use Rattle.boot.specs.Session.{sound, gathered};
 ghost use Rattle.boot.specs.Decide.{unconnected, decideByte, decideFrame};
@@ -32,14 +35,15 @@ impl Session {
         }
     }
 
-    // What one UART byte decides, given the session with the byte taken.
+    // What one UART byte decides, which can be said and carried out, given the session with the byte taken.
     pub(crate) fn decide_byte(self, byte: u8, taken: Session, usd: &[u8]) -> Decision
         requires { ⌜ T (sound self) × (taken ≡ gathered (byte ∷ []) self) × (length (now usd) ≡ extentOf Usd .bytes) ⌝ }
-        ensures { λ r. ⌜ r ≡ decideByte self (now (usd .entry)) byte ⌝ }
+        ensures { λ r. ⌜ (r ≡ decideByte self (now (usd .entry)) byte) × T (sayable (r .reply)) × T (fits (r .change) (taken .staged)) ⌝ }
     {
+        words::first(&taken.staged);
         let here = self.on(Carrier::Uart);
         if here {
-            uart::conversation::heard(
+            uart_deciding::heard(
                 self.step,
                 self.taken,
                 self.expected,
@@ -52,7 +56,7 @@ impl Session {
         }
     }
 
-    // What one CAN frame decides, given its ID, the data bytes that count, and the session with these taken.
+    // What one CAN frame decides, which can be said and carried out, given its ID, the data bytes that count, and the session with these taken.
     pub(crate) fn decide_frame(
         self,
         id: u16,
@@ -60,12 +64,12 @@ impl Session {
         taken: Session,
         usd: &[u8],
     ) -> Decision
-        requires { ⌜ T (sound self) × (taken ≡ gathered (now carried) self) × (length (now usd) ≡ extentOf Usd .bytes) × (length (now carried) ≤ classic .largest) ⌝ }
-        ensures { λ r. ⌜ r ≡ decideFrame self (now (usd .entry)) (frameOf id (now (carried .entry))) ⌝ }
+        requires { ⌜ T (sound self) × (taken ≡ gathered (now carried) self) × (length (now usd) ≡ extentOf Usd .bytes) × (length (now carried) ≤ classic .largest) × (getD (now carried) addressBytes 0 < 256) ⌝ }
+        ensures { λ r. ⌜ (r ≡ decideFrame self (now (usd .entry)) (frameOf id (now (carried .entry)))) × T (sayable (r .reply)) × T (fits (r .change) (taken .staged)) ⌝ }
     {
         let here = self.on(Carrier::Can);
         if here {
-            can::conversation::heard(
+            can_deciding::heard(
                 self.step,
                 self.taken,
                 self.expected,

@@ -1,4 +1,5 @@
 ghost use mathlib.Core.Path.{_≡_};
+ghost use mathlib.Core.List.{[], _∷_};
 ghost use Prim.Native.Nat.{_+_, _<_, _≤_};
 ghost use lib.ListN.{length, take};
 ghost use Rattle.words.specs.Over.{put};
@@ -118,6 +119,15 @@ impl Session {
         stage(&mut self.staged, at, new, fit);
         self.taken = at + fit;
         self
+    }
+
+    // The session with one byte taken.
+    pub(crate) fn gather_byte(self, byte: u8) -> Session
+        requires { ⌜ (self .taken < self .expected) × (self .expected ≤ stagedBytes) ⌝ }
+        ensures { λ r. ⌜ r ≡ gathered (byte ∷ []) self ⌝ }
+    {
+        let new = [byte];
+        self.gather(&new)
     }
 
     // The session after an input of a carrier, given the session with the input's bytes taken.

@@ -1,17 +1,15 @@
 ghost use mathlib.Core.Path.{_≡_};
 ghost use mathlib.Core.Bool.{true};
-ghost use Prim.Native.Nat.{_≤_};
-ghost use lib.Dec.{T, leb};
+ghost use lib.Dec.{leb};
 ghost use lib.ListN.{length};
-ghost use Rattle.memories.specs.Memories.{memories, lengthsRight, proper};
-ghost use Rattle.memories.specs.Effects.{fits};
+ghost use Rattle.memories.specs.Memories.{memories, lengthsRight};
 ghost use Rattle.uart.specs.Conversation as UC;
 ghost use Rattle.can.specs.Conversation as CC;
 ghost use Rattle.frames.specs.Frames.{classic, isFrame};
 ghost use Rattle.boot.specs.Session.{sound};
 ghost use Rattle.boot.specs.Causes.{accepts, causeOf};
 ghost use Rattle.boot.specs.Calls.{bears};
-ghost use Rattle.boot.specs.Promise.{left, givenByte, givenFrame, performed, refusedTaken, Performed, Leaves, Took};
+ghost use Rattle.boot.specs.Promise.{left, givenByte, givenFrame, acceptedTaken, refusedTaken, Took};
 use crate::Carrier;
 use crate::Cause;
 use crate::Session;
@@ -77,7 +75,7 @@ impl Session {
     {
         self.cause(
             lengths_right(flash, sram, usd),
-            uart::say::ROOM <= room,
+            reply::in_bytes::ROOM <= room,
             true,
         )
     }
@@ -88,7 +86,7 @@ impl Session {
     {
         self.cause(
             lengths_right(flash, sram, usd),
-            can::say::ROOM <= room,
+            reply::in_frames::ROOM <= room,
             frames::is_frame(frame),
         )
     }
@@ -109,77 +107,19 @@ impl Session {
         ensures { λ r. ⌜ r ≡ bears self id ⌝ }
     {
         let here = self.on(Carrier::Can);
-        if here {
-            can::conversation::bears(self.step, id)
-        } else {
-            id
-        }
+        if here { can::bears(self.step, id) } else { id }
     }
 
-    // A decision is carried out on a carrier after a reply of so many bytes, and the session that follows is handed back.
-    fn perform(
-        self,
-        carrier: Carrier,
-        taken: Session,
-        decision: Decision,
-        length: usize,
-        flash: &mut [u8],
-        sram: &mut [u8],
-        usd: &mut [u8],
-    ) -> Taken
-        requires { ⌜ T (proper (memories (now flash) (now sram) (now usd))) × T (fits (decision .change) (taken .staged)) ⌝ }
-        ensures { λ r. ⌜ Performed carrier self taken decision length (memories (now (flash .entry)) (now (sram .entry)) (now (usd .entry))) r (memories (now (flash .exit)) (now (sram .exit)) (now (usd .exit))) ⌝ }
+    // An accepted call tells how long its reply is, and hands back the session that follows.
+    fn accepted(self, carrier: Carrier, taken: Session, decision: Decision, length: usize) -> Taken
+        ensures { λ r. ⌜ r ≡ acceptedTaken carrier self taken (decision .next) length ⌝ }
     {
-        let change = decision.change;
         let next = decision.next;
-        memories::carry_out(change, &taken.staged, flash, sram, usd);
         Taken {
             number: Cause::Accepted.number(),
             length: length,
             session: self.after(carrier, taken, next),
         }
-    }
-
-    // A byte that is accepted is decided on, answered and carried out.
-    fn accept_byte(
-        self,
-        byte: u8,
-        flash: &mut [u8],
-        sram: &mut [u8],
-        usd: &mut [u8],
-        buffer: &mut [u8],
-    ) -> Taken
-        requires { ⌜ T (sound self) × T (proper (memories (now flash) (now sram) (now usd))) × (UC.uartRoom ≤ length (now buffer)) ⌝ }
-        ensures { λ r. ⌜ Leaves (performed (givenByte self byte (now (flash .entry)) (now (sram .entry)) (now (usd .entry)) (now (buffer .entry)))) (now (buffer .entry)) (left r (now (flash .exit)) (now (sram .exit)) (now (usd .exit)) (now (buffer .exit))) ⌝ }
-    {
-        let new = [byte];
-        let taken = self.gather(&new);
-        words::first(&taken.staged);
-        let decision = self.decide_byte(byte, taken, usd);
-        let reply = decision.reply;
-        let length = uart::say::say(reply, flash, sram, usd, buffer);
-        self.perform(Carrier::Uart, taken, decision, length, flash, sram, usd)
-    }
-
-    // A frame that is accepted is decided on, answered and carried out.
-    fn accept_frame(
-        self,
-        frame: &[u8],
-        flash: &mut [u8],
-        sram: &mut [u8],
-        usd: &mut [u8],
-        buffer: &mut [u8],
-    ) -> Taken
-        requires { ⌜ T (sound self) × T (proper (memories (now flash) (now sram) (now usd))) × (CC.canRoom ≤ length (now buffer)) × T (isFrame classic (now frame)) ⌝ }
-        ensures { λ r. ⌜ Leaves (performed (givenFrame self (now (frame .entry)) (now (flash .entry)) (now (sram .entry)) (now (usd .entry)) (now (buffer .entry)))) (now (buffer .entry)) (left r (now (flash .exit)) (now (sram .exit)) (now (usd .exit)) (now (buffer .exit))) ⌝ }
-    {
-        let id = frames::id(frame);
-        let carried = frames::carried(frame);
-        let taken = self.gather(carried);
-        let decision = self.decide_frame(id, carried, taken, usd);
-        let reply = decision.reply;
-        let length = can::say::say(reply, self.bears(id), flash, sram, usd, buffer);
-        self.perform(Carrier::Can, taken, decision, length, flash, sram, usd)
     }
 
     // Takes one UART byte, with the memories and the reply buffer that are lent.
@@ -194,12 +134,17 @@ impl Session {
         ensures { λ r. ⌜ Took (givenByte self byte (now (flash .entry)) (now (sram .entry)) (now (usd .entry)) (now (buffer .entry))) (left r (now (flash .exit)) (now (sram .exit)) (now (usd .exit)) (now (buffer .exit))) ⌝ }
     {
         let cause = self.byte_cause(flash.len(), sram.len(), usd.len(), buffer.len());
-        let accepted = cause.accepts();
-        if accepted {
-            self.accept_byte(byte, flash, sram, usd, buffer)
-        } else {
-            self.refused(cause)
+        let clear = cause.accepts();
+        if !clear {
+            return self.refused(cause);
         }
+        let taken = self.gather_byte(byte);
+        let decision = self.decide_byte(byte, taken, usd);
+        let reply = decision.reply;
+        let change = decision.change;
+        let length = reply::in_bytes::say(reply, flash, sram, usd, buffer);
+        effects::carry_out(change, &taken.staged, flash, sram, usd);
+        self.accepted(Carrier::Uart, taken, decision, length)
     }
 
     // Takes one CAN frame, with the memories and the reply buffer that are lent.
@@ -214,11 +159,18 @@ impl Session {
         ensures { λ r. ⌜ Took (givenFrame self (now (frame .entry)) (now (flash .entry)) (now (sram .entry)) (now (usd .entry)) (now (buffer .entry))) (left r (now (flash .exit)) (now (sram .exit)) (now (usd .exit)) (now (buffer .exit))) ⌝ }
     {
         let cause = self.frame_cause(frame, flash.len(), sram.len(), usd.len(), buffer.len());
-        let accepted = cause.accepts();
-        if accepted {
-            self.accept_frame(frame, flash, sram, usd, buffer)
-        } else {
-            self.refused(cause)
+        let clear = cause.accepts();
+        if !clear {
+            return self.refused(cause);
         }
+        let id = frames::id(frame);
+        let carried = frames::carried(frame);
+        let taken = self.gather(carried);
+        let decision = self.decide_frame(id, carried, taken, usd);
+        let reply = decision.reply;
+        let change = decision.change;
+        let length = reply::in_frames::say(reply, self.bears(id), flash, sram, usd, buffer);
+        effects::carry_out(change, &taken.staged, flash, sram, usd);
+        self.accepted(Carrier::Can, taken, decision, length)
     }
 }

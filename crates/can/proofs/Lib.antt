@@ -1,5 +1,4 @@
 pub mod Steps
-mod Carried
+pub mod Carried
 pub mod Good
 pub mod Rulings
-pub mod Alone

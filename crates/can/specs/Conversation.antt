@@ -5,7 +5,6 @@ use mathlib.Core.List.{List, _∷_, map}
 use lib.ListN.{length, getD, take, drop}
 use lib.Dec.{eqb, leb}
 use Rattle.words.specs.Bytes.{number}
-use Rattle.words.specs.Choice.{if_then_else_}
 use Rattle.board.specs.Board.{address, identity}
 use Rattle.board.specs.Quantities.{countOf, lessOne, oneLess, addressBytes, selectorBytes, longCountBytes}
 use Rattle.board.specs.declared.Address.{Address}
@@ -19,8 +18,6 @@ use Rattle.command.specs.declared.Decision.{Decision}
 use Rattle.command.specs.declared.Lookup.{Lookup}
 use Rattle.command.specs.declared.Lookup.the-variants.{Known, Unknown}
 use Rattle.command.specs.declared.Next.the-variants.{Gather, GoIdle, SetSpeed, Enter, EnterAt}
-use Rattle.command.specs.Says.{fixed}
-use Rattle.command.specs.declared.Reply.{Reply}
 use Rattle.command.specs.declared.Reply.the-variants.{Silence, Ack, AckAck, AckNack, Commands, Version, DeviceId}
 use Rattle.command.specs.declared.Verdict.{Verdict}
 use Rattle.command.specs.declared.Verdict.the-variants.{Fine, No}
@@ -28,7 +25,7 @@ use Rattle.command.specs.declared.Why.the-variants.{BadComplement, UnknownComma
 use Rattle.rules.specs.Rules.{unlessProtected, telling, reading, writeVerdict, writing, selectorOf, erasing, eraseAllVerdict, protecting, releasing, locking, unlocking, resetting, jumping, summing}
 use Rattle.rules.specs.declared.Selector.{Selector}
 use Rattle.rules.specs.declared.Selector.the-variants.{Listed, Special, Impossible}
-use Rattle.frames.specs.Frames.{Frame, classic, carried, counted}
+use Rattle.frames.specs.Frames.{Frame, carried, counted}
 use Rattle.can.specs.Steps.{stepNo, expectedForNumbers, numbersIn}
 use Rattle.can.specs.declared.Step.{Step}
 use Rattle.can.specs.declared.Step.the-variants.{Idle, WriteData, EraseList, ProtectList}
@@ -145,7 +142,3 @@ bears Idle id = id
 bears WriteData id = code WriteMemory
 bears EraseList id = code Erase
 bears ProtectList id = code ProgramProtect
-
--- how many bytes of a reply go into one frame: what is fixed is sent one byte a frame
-abbrev pub pieceOf : Reply → ℕ
-pieceOf r = if fixed r then 1 else classic .largest

@@ -1,11 +1,9 @@
-pub mod conversation;
-mod obey;
-pub mod say;
-
 ghost use mathlib.Core.Path.{_≡_};
 ghost use Rattle.can.specs.Steps.{stepNo, stepOf, expects};
+ghost use Rattle.can.specs.Conversation.{bears};
 use board::Board;
 use board::LessOne;
+use command::code;
 
 // The steps of the CAN conversation, idle first.
 pub enum Step {
@@ -60,5 +58,18 @@ impl Step {
             Step::EraseList => (2 <= n) & (n <= 2 * Board::SECTORS) & (n % 2 == 0),
             Step::ProtectList => (1 <= n) & (n <= LessOne::LARGEST),
         }
+    }
+}
+
+// The ID that replies bear: the frame's own, or while gathering the running one.
+pub fn bears(step: u8, id: u16) -> u16
+    ensures { λ r. ⌜ r ≡ bears (stepOf step) id ⌝ }
+{
+    let here = Step::of(step);
+    match here {
+        Step::Idle => id,
+        Step::WriteData => code::WRITE_MEMORY as u16,
+        Step::EraseList => code::ERASE as u16,
+        Step::ProtectList => code::PROGRAM_PROTECT as u16,
     }
 }

@@ -80,6 +80,10 @@ sayable DeviceId = true
 sayable (Data r at x) = leb x largestCount && leb (at + x) (extentOf r .bytes)
 sayable (Crc at n) = leb (at + n) (flash .bytes)
 
+-- the most bytes of a reply: ACK and the bytes of the largest read
+abbrev pub replyRoom : ℕ
+replyRoom = largestCount + 1
+
 -- a reply of so many bytes stands at the front of a buffer, which is unchanged beyond it
 pub record Said (reply : List ℕ) (n : ℕ) (before after : List ℕ) : Type 0 where
   pub count : n ≡ length reply

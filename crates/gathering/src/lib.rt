@@ -29,6 +29,6 @@ pub fn silent_frame(step: u8, taken: usize, expected: usize, id: u16, dlc: usize
     requires { ⌜ taken ≤ expected ⌝ }
     ensures { λ r. ⌜ (T r → SilentFrame step taken expected id dlc) ⌝ }
 {
-    let own = id == can::conversation::bears(step, id);
+    let own = id == can::bears(step, id);
     own & (0 < dlc) & (dlc < expected - taken)
 }

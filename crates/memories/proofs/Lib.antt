@@ -1,6 +1,4 @@
 pub mod Memories
-pub mod Lists
-pub mod Fits
 pub mod Written
 pub mod Erased
 pub mod Protected

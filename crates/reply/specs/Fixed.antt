@@ -1,17 +1,12 @@
 -- Replies that are fixed bytes, and the most bytes of any reply.
-use Prim.Native.Nat.{ℕ, _+_, _≤_}
+use Prim.Native.Nat.{ℕ, _≤_}
 use mathlib.Core.Path.{_≡_}
 use mathlib.Core.List.{List, [], _∷_, _++_, map}
 use lib.ListN.{length, take}
-use Rattle.board.specs.Quantities.{largestCount}
 use Rattle.board.specs.Board.{identity}
 use Rattle.command.specs.Commands.{code, uartCommands}
 use Rattle.command.specs.Says.{ackByte}
 use Rattle.reply.specs.declared.Fixed.{Fixed}
-
--- the most bytes of a reply: ACK and the bytes of the largest read
-abbrev pub replyRoom : ℕ
-replyRoom = largestCount + 1
 
 -- an answer to 0x00: ACK, a count, the version, the commands that both carriers have, and what two bytes say behind them
 abbrev pub listing : ℕ → ℕ → ℕ → List ℕ

@@ -1,3 +1,6 @@
+pub mod in_bytes;
+pub mod in_frames;
+
 ghost use mathlib.Core.Path.{_≡_};
 ghost use mathlib.Core.List.{List, _∷_};
 ghost use Prim.Native.Nat.{ℕ, _+_, _≤_};
@@ -10,8 +13,8 @@ ghost use Rattle.board.specs.Board.{extentOf};
 ghost use Rattle.board.specs.Quantities.{largestCount};
 ghost use Rattle.crc.specs.Crc.{crc};
 ghost use Rattle.memories.specs.Memories.{Memories, memories, proper, bytesOf};
-ghost use Rattle.command.specs.Says.{ackByte, says, sayable, fixed, Said};
-ghost use Rattle.reply.specs.Fixed.{replyRoom, fixedRoom, listing, Holds, Lists};
+ghost use Rattle.command.specs.Says.{replyRoom, ackByte, says, sayable, fixed, Said};
+ghost use Rattle.reply.specs.Fixed.{fixedRoom, listing, Holds, Lists};
 use board::Board;
 use board::LessOne;
 use board::Region;

@@ -1,4 +1,3 @@
 pub mod Unless
 pub mod Good
 pub mod Rulings
-mod Arms

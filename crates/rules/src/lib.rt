@@ -1,13 +1,3 @@
-pub mod at_once;
-pub mod erase;
-pub mod jump;
-pub mod protect;
-pub mod protected;
-pub mod read;
-pub mod sent;
-pub mod sum;
-pub mod write;
-
 use board::LessOne;
 
 // What the two selector bytes of an erase ask for.

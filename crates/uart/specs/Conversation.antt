@@ -7,7 +7,7 @@ use lib.Dec.{eqb}
 use Rattle.words.specs.Bytes.{complement, xorAll, number, twoBytes}
 use Rattle.board.specs.Board.{address, identity, sectors}
 use Rattle.board.specs.Quantities.{largestCount, countOf, lessOne, oneLess, addressBytes, selectorBytes, longCountBytes, numbersBytes}
-use Rattle.reply.specs.Fixed.{replyRoom}
+use Rattle.command.specs.Says.{replyRoom}
 use Rattle.board.specs.Regions.{known, sectorStart}
 use Rattle.board.specs.declared.Address.{Address}
 use Rattle.memories.specs.declared.Change.the-variants.{EraseAll}

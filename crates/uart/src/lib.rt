@@ -1,9 +1,3 @@
-mod address;
-mod checksum;
-pub mod conversation;
-mod obey;
-pub mod say;
-
 ghost use mathlib.Core.Path.{_≡_};
 ghost use Rattle.uart.specs.Steps.{stepNo, stepOf, expects};
 use board::Board;

@@ -1,0 +1,20 @@
+-- The address is the first four bytes, the count the fifth and last.
+use borrow.Author.Needs.{needs}
+use native.Mathlib.Omega.{arith}
+use lib.Dec.{eqb→eq}
+use lib.ListN.{length}
+use Rattle.can.specs.Conversation.{obeyed}
+use Rattle.can.proofs.Carried.{last-number}
+use Rattle.can_deciding.proofs.obey.read_memory.Statement.{statement}
+use Rattle.can_deciding.proofs.obey.read_memory.Tie as tie
+
+pub read-memory-spec : {M : Type 1} → statement M
+unfolding obeyed
+read-memory-spec =
+    tie.close
+    (tie.spec
+    (λ c κs. let h = eqb→eq (length (c .before .args .carried .now)) 5 (c .before .pre) in omega arith)
+    (λ c. let h = eqb→eq (length (c .before .before .before .args .carried .now)) 5 (c .before .before .before .pre) in omega arith)
+    (λ c κs. search needs)
+    (λ c κs. search needs)
+    (λ c. rw (last-number 4 (c .before .before .before .before .before .args .carried .now) (eqb→eq (length (c .before .before .before .before .before .args .carried .now)) 5 (c .before .before .before .before .before .pre)), ← c .before .before .before .address-in .ensures, ← c .before .count-of .ensures .0) (c .read .ensures)))

@@ -1,0 +1,25 @@
+-- By what the selector asks for.
+use borrow.Author.Needs.{needs}
+use Rattle.can.specs.Conversation.{selected}
+use Rattle.can_deciding.proofs.obey.selected.Statement.{statement}
+use Rattle.can_deciding.proofs.obey.selected.Tie as tie
+
+pub selected-spec : {M : Type 1} → statement M
+unfolding selected
+selected-spec =
+    tie.close
+    (tie.spec
+    (λ c. search needs)
+    (λ c κs. search needs)
+    (λ c κs. search needs)
+    (λ c. search needs)
+    (λ c κs. search needs)
+    (λ c. search needs)
+    (λ c. search needs)
+    (λ c κs. search needs)
+    (λ c κs. search needs)
+    (λ c. search needs)
+    (λ c κs. search needs)
+    (λ c. rw (c .before .before .before .before .selector .given .1) (rw (c .before .before .number .ensures, c .before .count .ensures) at (c .answer .ensures)))
+    (λ c. rw (c .before .before .before .selector2 .given .1, ← c .before .erase-all-verdict .ensures) (c .erased-or-not .ensures))
+    (λ c. rw (c .before .enum-told .given .1) (c .nack .ensures)))

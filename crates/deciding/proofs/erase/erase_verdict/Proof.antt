@@ -1,0 +1,20 @@
+-- The tests are the rule's, in its order.
+use borrow.Author.Needs.{needs}
+use native.Mathlib.Omega.{arith}
+use mathlib.Core.Path.{sym, _∙_, subst}
+use lib.Dec.{T}
+use borrow.Author.Tests.{not-true, not-false}
+use Rattle.rules.specs.Rules.{eraseVerdict}
+use Rattle.deciding.proofs.erase.erase_verdict.Statement.{statement}
+use Rattle.deciding.proofs.erase.erase_verdict.Tie as tie
+
+pub erase-verdict-spec : {M : Type 1} → statement M
+unfolding eraseVerdict
+erase-verdict-spec =
+    tie.close
+    (tie.spec
+    (λ c κs. search needs)
+    (λ c. rw (sym (c .before .all-numbered .ensures) ∙ not-true _ (c .if1 .taken)))
+    (λ c κs. (omega arith, omega arith, subst T (sym (sym (c .before .all-numbered .ensures) ∙ not-false _ (c .if1 .left))) tt))
+    (λ c. rw (sym (c .before .before .before .all-numbered .ensures) ∙ not-false _ (c .before .before .if1 .left), sym (c .before .any-numbered-protected .ensures) ∙ c .if2 .taken))
+    (λ c. rw (sym (c .before .before .before .all-numbered .ensures) ∙ not-false _ (c .before .before .if1 .left), sym (c .before .any-numbered-protected .ensures) ∙ c .if2 .left)))

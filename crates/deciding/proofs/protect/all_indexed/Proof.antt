@@ -1,0 +1,34 @@
+-- Before each turn the indexes that are left give the same answer as all of them.
+use borrow.Author.Needs.{needs}
+use native.Mathlib.Omega.{arith}
+use mathlib.Core.Path.{_≡_, refl}
+use Prim.Native.Nat.{_≤_, _-_}
+use lib.ListN.{getD, take}
+use lib.Seq.{slice, slice-empty}
+use borrow.Author.Tests.{lt-ltb, le-ltb}
+use Rattle.words.specs.Lists.{all}
+use Rattle.board.specs.Quantities.{isSector, indexed}
+use Rattle.board.proofs.InOrder.{indexed-first}
+use Rattle.deciding.proofs.protect.all_indexed.Statement.{statement}
+use Rattle.deciding.proofs.protect.all_indexed.Tie as tie
+
+abbrev Inv-loop : tie.InvT-loop
+Inv-loop staged x i₀ i = (i ≤ x) × (all isSector (indexed (slice i x staged)) ≡ all isSector (indexed (take x staged)))
+
+abbrev μ-loop : tie.MeasureT-loop
+μ-loop staged x i₀ i = x - i
+
+pub all-indexed-spec : {M : Type 1} → statement M
+all-indexed-spec =
+    tie.close
+    (tie.spec
+    Inv-loop
+    μ-loop
+    (λ c. (omega arith, refl))
+    (λ c. search needs)
+    (λ c. omega arith)
+    (λ c. rw (← c .before .before .before .loop .inv .1, indexed-first (c .before .before .before .before .args .staged .now) (c .before .before .before .loop .i) (c .before .before .before .before .args .x) (omega arith) (omega arith), le-ltb (getD (c .before .before .before .before .args .staged .now) (c .before .before .before .loop .i) 0) 32 (c .if1 .taken)))
+    (λ c. omega arith)
+    (λ c. omega arith)
+    (λ c. (omega arith, rw (indexed-first (c .before .before .before .before .args .staged .now) (c .before .before .before .loop .i) (c .before .before .before .before .args .x) (omega arith) (omega arith), lt-ltb (getD (c .before .before .before .before .args .staged .now) (c .before .before .before .loop .i) 0) 32 (c .if1 .left)) at (c .before .before .before .loop .inv .1)))
+    (λ c. let e : c .before .loop .i ≡ c .before .before .args .x = omega arith in rw (e, slice-empty) at (c .before .loop .inv .1)))

@@ -1,0 +1,22 @@
+-- By the place, and the region of it.
+use borrow.Author.Needs.{needs}
+use mathlib.Core.Path.{sym, _∙_}
+use Rattle.rules.specs.Rules.{sumAt}
+use Rattle.deciding.proofs.Arms.{no-sum}
+use Rattle.deciding.proofs.sum.sum_at.Statement.{statement}
+use Rattle.deciding.proofs.sum.sum_at.Tie as tie
+
+pub sum-at-spec : {M : Type 1} → statement M
+unfolding sumAt
+sum-at-spec =
+    tie.close
+    (tie.spec
+    (λ c. search needs)
+    (λ c. search needs)
+    (λ c κs. search needs)
+    (λ c κs. search needs)
+    (λ c. search needs)
+    (λ c κs. search needs)
+    (λ c. rw (c .before .before .before .before .place .given .1, c .before .enum-told .given .1) (c .answer .ensures))
+    (λ c. rw (c .before .before .before .place .given .1) (c .nack .ensures ∙ sym (no-sum (c .before .before .before .place .given .0 .0) (c .before .match2 .keys2) (c .before .before .before .place .given .0 .1 .0) (c .before .before .before .before .before .args .n))))
+    (λ c. rw (c .before .enum-told2 .given .1) (c .nack2 .ensures)))

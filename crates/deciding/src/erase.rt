@@ -1,0 +1,124 @@
+ghost use mathlib.Core.Path.{_≡_};
+ghost use Prim.Native.Nat.{_*_, _≤_};
+ghost use lib.Dec.{T};
+ghost use lib.ListN.{length};
+ghost use Rattle.words.specs.Lists.{any, all};
+ghost use Rattle.board.specs.Board.{extentOf};
+ghost use Rattle.board.specs.Quantities.{isSector, firstNumbered};
+ghost use Rattle.board.specs.Usd.{writeProtected};
+ghost use Rattle.board.specs.declared.Region.the-variants.{Usd};
+ghost use Rattle.rules.specs.Rules.{selectorOf, eraseVerdict, erasing, eraseAllVerdict};
+use board::Board;
+use board::LessOne;
+use board::Sector;
+use command::Decision;
+use command::Next;
+use command::Reply;
+use command::Verdict;
+use command::Why;
+use memories::Change;
+use rules::Selector;
+
+// The first special selector of an erase.
+pub const FIRST_SPECIAL: u16 = 0xFFFB;
+
+// The two special selectors that erase all flash.
+pub const WHOLE_FLASH: u32 = 0xFFFF;
+
+pub const FIRST_BANK: u32 = 0xFFFE;
+
+// What two selector bytes of an erase ask for.
+pub fn selector_of(number: u16) -> Selector
+    ensures { λ r. ⌜ r ≡ selectorOf number ⌝ }
+{
+    let special = FIRST_SPECIAL <= number;
+    if special {
+        return Selector::Special(number);
+    }
+    let sent = LessOne(number);
+    let listed = sent.count() <= Board::SECTORS;
+    if listed {
+        Selector::Listed(sent)
+    } else {
+        Selector::Impossible
+    }
+}
+
+// Whether the x staged two-byte numbers are all sectors of the board.
+fn all_numbered(staged: &[u8], x: usize) -> bool
+    requires { ⌜ 2 * x ≤ length (now staged) ⌝ }
+    ensures { λ r. ⌜ r ≡ all isSector (firstNumbered x (now (staged .entry))) ⌝ }
+{
+    let end = 2 * x;
+    let mut j = 0;
+    while j < end {
+        let k = words::number2(staged[j], staged[j + 1]);
+        if Board::SECTORS as u16 <= k {
+            return false;
+        }
+        j += 2;
+    }
+    true
+}
+
+// Whether one of the x staged two-byte numbers names a write-protected sector.
+fn any_numbered_protected(usd: &[u8], staged: &[u8], x: usize) -> bool
+    requires { ⌜ (length (now usd) ≡ extentOf Usd .bytes) × (2 * x ≤ length (now staged)) × T (all isSector (firstNumbered x (now staged))) ⌝ }
+    ensures { λ r. ⌜ r ≡ any (writeProtected (now (usd .entry))) (firstNumbered x (now (staged .entry))) ⌝ }
+{
+    let end = 2 * x;
+    let mut j = 0;
+    while j < end {
+        let k = words::number2(staged[j], staged[j + 1]);
+        if Board::write_protected(usd, Sector(k)) {
+            return true;
+        }
+        j += 2;
+    }
+    false
+}
+
+// Whether the x sectors whose numbers are staged may be erased.
+fn erase_verdict(usd: &[u8], staged: &[u8], x: usize) -> Verdict
+    requires { ⌜ (length (now usd) ≡ extentOf Usd .bytes) × (2 * x ≤ length (now staged)) ⌝ }
+    ensures { λ r. ⌜ r ≡ eraseVerdict (now (usd .entry)) (firstNumbered x (now (staged .entry))) ⌝ }
+{
+    let sectors = all_numbered(staged, x);
+    if !sectors {
+        return Verdict::No(Why::BadSector);
+    }
+    let forbidden = any_numbered_protected(usd, staged, x);
+    if forbidden {
+        Verdict::No(Why::WriteProtected)
+    } else {
+        Verdict::Fine
+    }
+}
+
+// An erase of the x sectors whose numbers are staged, or of none.
+pub fn erase(usd: &[u8], staged: &[u8], x: usize) -> Decision
+    requires { ⌜ (length (now usd) ≡ extentOf Usd .bytes) × (2 * x ≤ length (now staged)) ⌝ }
+    ensures { λ r. ⌜ r ≡ erasing (now (usd .entry)) (now (staged .entry)) x ⌝ }
+{
+    command::judged(
+        erase_verdict(usd, staged, x),
+        command::alter(Reply::Ack, Change::EraseSectors(x), Next::GoIdle),
+    )
+}
+
+// Whether a special selector may erase all flash.
+pub fn erase_all_verdict(usd: &[u8], number: u32) -> Verdict
+    requires { ⌜ length (now usd) ≡ extentOf Usd .bytes ⌝ }
+    ensures { λ r. ⌜ r ≡ eraseAllVerdict (now (usd .entry)) number ⌝ }
+{
+    let all = (number == WHOLE_FLASH) | (number == FIRST_BANK);
+    if !all {
+        return Verdict::No(Why::UnsupportedErase);
+    }
+    let forbidden = Board::any_write_protected(usd, Sector(0), Board::SECTORS);
+    if forbidden {
+        Verdict::No(Why::WriteProtected)
+    } else {
+        Verdict::Fine
+    }
+}

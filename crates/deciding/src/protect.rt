@@ -1,0 +1,40 @@
+ghost use mathlib.Core.Path.{_≡_};
+ghost use Prim.Native.Nat.{_≤_};
+ghost use lib.ListN.{length};
+ghost use Rattle.words.specs.Lists.{all};
+ghost use Rattle.board.specs.Quantities.{isSector, firstIndexed};
+ghost use Rattle.rules.specs.Rules.{protecting};
+use board::Board;
+use command::Decision;
+use command::Next;
+use command::Reply;
+use command::Why;
+use memories::Change;
+
+// Whether the x staged indexes are all sectors of the board.
+fn all_indexed(staged: &[u8], x: usize) -> bool
+    requires { ⌜ x ≤ length (now staged) ⌝ }
+    ensures { λ r. ⌜ r ≡ all isSector (firstIndexed x (now (staged .entry))) ⌝ }
+{
+    let mut i = 0;
+    while i < x {
+        if Board::SECTORS as u8 <= staged[i] {
+            return false;
+        }
+        i += 1;
+    }
+    true
+}
+
+// Protection of the x sectors whose indexes are staged alone, or a refusal.
+pub fn protect(staged: &[u8], x: usize) -> Decision
+    requires { ⌜ x ≤ length (now staged) ⌝ }
+    ensures { λ r. ⌜ r ≡ protecting (now (staged .entry)) x ⌝ }
+{
+    let sectors = all_indexed(staged, x);
+    if sectors {
+        command::alter(Reply::Ack, Change::ProtectOnly(x), Next::Reset)
+    } else {
+        command::nack(Why::BadSector)
+    }
+}

@@ -1,0 +1,17 @@
+-- The sector's bytes are filled from its start on.
+use borrow.Author.Needs.{needs}
+use native.Mathlib.Omega.{arith}
+use lib.Dec.{ltb→lt}
+use Rattle.memories.specs.Effects.{blank}
+use Rattle.effects.proofs.erase_sector.Statement.{statement}
+use Rattle.effects.proofs.erase_sector.Tie as tie
+
+pub erase-sector-spec : {M : Type 1} → statement M
+unfolding blank
+erase-sector-spec =
+    tie.close
+    (tie.spec
+    (λ c κs. search needs)
+    (λ c κs. let h = ltb→lt (c .before .before .before .args .sector .0) 32 (c .before .before .before .pre .1) in rw (c .start .ensures) (omega arith))
+    (λ c. search needs)
+    (λ c. rw (c .before .before .fill .ensures, c .before .before .before .start .ensures)))

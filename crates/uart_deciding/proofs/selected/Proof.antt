@@ -1,0 +1,26 @@
+-- By what the selector asks for.
+use borrow.Author.Needs.{needs}
+use Rattle.uart.specs.Conversation.{selected}
+use Rattle.uart_deciding.proofs.selected.Statement.{statement}
+use Rattle.uart_deciding.proofs.selected.Tie as tie
+
+pub selected-spec : {M : Type 1} → statement M
+unfolding selected
+selected-spec =
+    tie.close
+    (tie.spec
+    (λ c. search needs)
+    (λ c κs. search needs)
+    (λ c κs. search needs)
+    (λ c. search needs)
+    (λ c. search needs)
+    (λ c κs. search needs)
+    (λ c. search needs)
+    (λ c κs. search needs)
+    (λ c. search needs)
+    (λ c κs. search needs)
+    (λ c. search needs)
+    (λ c κs. search needs)
+    (λ c. rw (c .before .before .before .before .selector .given .1, ← c .before .before .number .ensures, ← c .before .count .ensures) (c .answer .ensures))
+    (λ c. rw (c .before .before .before .selector2 .given .1, ← c .before .number2 .ensures) (c .answer2 .ensures))
+    (λ c. rw (c .before .enum-told .given .1) (c .nack .ensures)))
