@@ -2,7 +2,6 @@
 use Prim.Native.Nat.{ℕ}
 use mathlib.Core.Path.{_≡_}
 use mathlib.Core.List.{List}
-use lib.Dec.{eqb}
 use Rattle.words.specs.Choice.{if_then_else_}
 use Rattle.boot.specs.Session.{fresh}
 use Rattle.boot.specs.Causes.{causeNo, accepts}
@@ -10,8 +9,7 @@ use Rattle.boot.specs.Promise.{Given, left, outcome, Took}
 use Rattle.boot.specs.declared.Cause.{Cause}
 use Rattle.boot.specs.declared.Cause.the-variants.{Accepted, UnsoundSession}
 use Rattle.boot.specs.declared.Session.{Session}
-use Rattle.boot.specs.declared.Taken.{Taken}
-use Rattle.exports.specs.Sessions.{sessionBytes, holdsSession, sessionIn}
+use Rattle.lent.specs.Sessions.{sessionBytes, holdsSession, sessionIn}
 
 -- the slice of a session after a call: the next session where it was accepted, and else what was lent
 abbrev pub handedOn : Cause → Session → List ℕ → List ℕ
@@ -25,11 +23,6 @@ powerCause lent = if holdsSession lent then Accepted else UnsoundSession
 pub record PowersOn (lent : List ℕ) (n : ℕ) (after : List ℕ) : Type 0 where
   pub number : n ≡ causeNo (powerCause lent)
   pub session : after ≡ handedOn (powerCause lent) fresh lent
-
--- the session of a result is handed on where its number is that of no cause, and is then what the slice holds
-pub record HandsOn (t : Taken) (lent after : List ℕ) : Type 0 where
-  pub session : after ≡ (if eqb (t .number) (causeNo Accepted) then sessionBytes (t .session) else lent)
-  pub held : t .number ≡ causeNo Accepted → sessionIn after ≡ t .session
 
 -- a taking call leaves what the board's own call does, of whose result the session stands in the slice
 pub record Takes (g : Given) (lent : List ℕ) (n count : ℕ) (after flash sram usd buffer : List ℕ) : Type 0 where

@@ -1,13 +1,8 @@
 // The calls of the board for programs in Rust and C, over slices of bytes that the caller lends.
-pub mod lent;
-
 ghost use Rattle.boot.specs.Promise.{givenByte, givenFrame};
-ghost use Rattle.exports.specs.Sessions.{sessionIn};
+ghost use Rattle.lent.specs.Sessions.{sessionIn};
 ghost use Rattle.exports.specs.Promise.{PowersOn, Takes};
 use boot::Session;
-
-// The number of a call that is refused for its session.
-const UNSOUND_SESSION: u8 = 4;
 
 // Powers the board on: the session becomes a fresh one.
 #[no_mangle]
@@ -15,7 +10,7 @@ pub extern "C" fn oilthicket_power_on(session: &mut [u8]) -> u8
     ensures { λ r. ⌜ PowersOn (now (session .entry)) r (now (session .exit)) ⌝ }
 {
     if session.len() != lent::LENGTH {
-        return UNSOUND_SESSION;
+        return lent::UNSOUND_SESSION;
     }
     lent::write(Session::power_on(), session);
     lent::ACCEPTED

@@ -2,9 +2,9 @@
 use borrow.Author.Needs.{needs}
 use native.Mathlib.Omega.{arith}
 use lib.ListN.{length-set}
-use Rattle.exports.proofs.Sessions.{all-stored, read-back}
-use Rattle.exports.proofs.lent.write.Statement.{statement}
-use Rattle.exports.proofs.lent.write.Tie as tie
+use Rattle.lent.proofs.Sessions.{all-stored, read-back}
+use Rattle.lent.proofs.write.Statement.{statement}
+use Rattle.lent.proofs.write.Tie as tie
 
 pub write-spec : {M : Type 1} → statement M
 write-spec =

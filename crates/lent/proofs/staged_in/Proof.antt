@@ -6,8 +6,8 @@ use Rattle.words.specs.Lists.{part}
 use Rattle.words.proofs.Over.{put-all}
 use Rattle.words.proofs.Slices.{length-part}
 use Rattle.boot.specs.Session.{noBytes}
-use Rattle.exports.proofs.lent.staged_in.Statement.{statement}
-use Rattle.exports.proofs.lent.staged_in.Tie as tie
+use Rattle.lent.proofs.staged_in.Statement.{statement}
+use Rattle.lent.proofs.staged_in.Tie as tie
 
 pub staged-in-spec : {M : Type 1} → statement M
 staged-in-spec =

@@ -1,9 +1,9 @@
 -- A slice of a session's length holds one, and any other holds none.
 use borrow.Author.Needs.{needs}
 use borrow.Author.Tests.{eq-eqb, ne-eqb}
-use Rattle.exports.specs.Sessions.{sessionIn}
-use Rattle.exports.proofs.lent.read.Statement.{statement}
-use Rattle.exports.proofs.lent.read.Tie as tie
+use Rattle.lent.specs.Sessions.{sessionIn}
+use Rattle.lent.proofs.read.Statement.{statement}
+use Rattle.lent.proofs.read.Tie as tie
 
 pub read-spec : {M : Type 1} → statement M
 unfolding sessionIn

@@ -2,9 +2,9 @@
 use borrow.Author.Needs.{needs}
 use mathlib.Core.Path.{refl, ap, _∙_}
 use borrow.Author.Tests.{eq-eqb, ne-eqb}
-use Rattle.exports.specs.Sessions.{sessionIn}
-use Rattle.exports.proofs.lent.hand_on.Statement.{statement}
-use Rattle.exports.proofs.lent.hand_on.Tie as tie
+use Rattle.lent.specs.Sessions.{sessionIn}
+use Rattle.lent.proofs.hand_on.Statement.{statement}
+use Rattle.lent.proofs.hand_on.Tie as tie
 
 pub hand-on-spec : {M : Type 1} → statement M
 hand-on-spec =

@@ -1,3 +1,4 @@
+// A session as the bytes that it is lent in: reads it, writes it, and hands it on after a call.
 ghost use mathlib.Core.Path.{_≡_};
 ghost use Prim.Native.Nat.{_+_, _≤_};
 ghost use lib.ListN.{length};
@@ -8,13 +9,16 @@ ghost use Rattle.board.specs.Quantities.{addressBytes};
 ghost use Rattle.memories.specs.Effects.{stagedBytes};
 ghost use Rattle.boot.specs.Causes.{causeNo};
 ghost use Rattle.boot.specs.declared.Cause.the-variants.{Accepted};
-ghost use Rattle.exports.specs.Sessions.{sessionLength, countBytes, stagedPlace, eightBytes, sessionBytes, heldIn, noSession, sessionIn};
-ghost use Rattle.exports.specs.Promise.{HandsOn};
+ghost use Rattle.lent.specs.Sessions.{sessionLength, countBytes, stagedPlace, eightBytes, sessionBytes, heldIn, noSession, sessionIn};
+ghost use Rattle.lent.specs.Promise.{HandsOn};
 use boot::Session;
 use boot::Taken;
 
 // The number of a call that is accepted.
 pub const ACCEPTED: u8 = 0;
+
+// The number of a call that is refused for its session.
+pub const UNSOUND_SESSION: u8 = 4;
 
 // How many bytes a session is lent in.
 pub const LENGTH: usize = 280;

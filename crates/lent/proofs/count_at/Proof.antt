@@ -1,9 +1,9 @@
 -- The first four bytes are the high half of the number, and the other four the low half.
 use borrow.Author.Needs.{needs}
 use native.Mathlib.Omega.{arith}
-use Rattle.exports.proofs.Numbers.{eight-at}
-use Rattle.exports.proofs.lent.count_at.Statement.{statement}
-use Rattle.exports.proofs.lent.count_at.Tie as tie
+use Rattle.lent.proofs.Numbers.{eight-at}
+use Rattle.lent.proofs.count_at.Statement.{statement}
+use Rattle.lent.proofs.count_at.Tie as tie
 
 pub count-at-spec : {M : Type 1} → statement M
 count-at-spec =

@@ -1,9 +1,9 @@
 -- The four bytes from the place on are those that the number is made of.
 use borrow.Author.Needs.{needs}
 use native.Mathlib.Omega.{arith}
-use Rattle.exports.proofs.Numbers.{four-at}
-use Rattle.exports.proofs.lent.address_at.Statement.{statement}
-use Rattle.exports.proofs.lent.address_at.Tie as tie
+use Rattle.lent.proofs.Numbers.{four-at}
+use Rattle.lent.proofs.address_at.Statement.{statement}
+use Rattle.lent.proofs.address_at.Tie as tie
 
 pub address-at-spec : {M : Type 1} → statement M
 address-at-spec =

@@ -1,8 +1,8 @@
 -- Each number is read where it stands.
 use borrow.Author.Needs.{needs}
-use Rattle.exports.specs.Sessions.{heldIn}
-use Rattle.exports.proofs.lent.held_in.Statement.{statement}
-use Rattle.exports.proofs.lent.held_in.Tie as tie
+use Rattle.lent.specs.Sessions.{heldIn}
+use Rattle.lent.proofs.held_in.Statement.{statement}
+use Rattle.lent.proofs.held_in.Tie as tie
 
 pub held-in-spec : {M : Type 1} → statement M
 unfolding heldIn

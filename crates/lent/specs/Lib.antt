@@ -1,0 +1,2 @@
+pub mod Sessions
+pub mod Promise
