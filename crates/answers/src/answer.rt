@@ -15,11 +15,10 @@ use crate::Passed;
 use boot::Session;
 use lines::Kind;
 use lines::digits;
-use lines::first::LINE_FEED;
 use lines::line;
-use lines::written;
 use words::FIELD;
 use words::SPACE;
+use written::first::LINE_FEED;
 
 // The room for a reply: what either carrier needs.
 const ROOM: usize = reply::in_frames::ROOM;

@@ -8,7 +8,6 @@ mod vector;
 
 use libc::STDIN_FILENO;
 use lines::line;
-use lines::written;
 use vector::BYTES;
 use words::FIELD;
 

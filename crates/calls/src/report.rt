@@ -10,7 +10,7 @@ use crate::wide;
 use boot::Session;
 use boot::Taken;
 use libc::STDOUT_FILENO;
-use lines::first::LINE_FEED;
+use written::first::LINE_FEED;
 
 // The modulus of a digest's two sums, and how many bits each takes.
 const MODULUS: u64 = 65521;

@@ -18,10 +18,10 @@ use Rattle.boot.specs.declared.Session.{Session}
 use Rattle.gathering.specs.Gathering.{HearsFrames}
 use Rattle.gathering.proofs.Silent.{onlyGathered, all-fit, silent-id, still-hears, gathers-frame}
 use Rattle.lines.specs.Lines.{lineFeed, idCharacters, fields, idIn, frameWritten}
-use Rattle.lines.specs.First.{endless, behindLetter}
 use Rattle.lines.proofs.Lines.{FrameGood, frame-good, data-fits}
-use Rattle.lines.proofs.FrameFirst.{first-line}
-use Rattle.lines.proofs.ReadBack.{carried-back, id-back, formed-back}
+use Rattle.written.specs.First.{endless, behindLetter}
+use Rattle.written.proofs.FrameFirst.{first-line}
+use Rattle.written.proofs.ReadBack.{carried-back, id-back, formed-back}
 use Rattle.answers.specs.Answers.{answered, deskRoom, tell, tells, answerBy, answer}
 use Rattle.answers.specs.Promise.{Tells, Continues}
 use Rattle.answers.specs.Told.{Told, quiet, _then_}

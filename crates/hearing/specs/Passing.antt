@@ -7,7 +7,7 @@ use Rattle.boot.specs.Promise.{stateOf}
 use Rattle.boot.specs.declared.Session.{Session}
 use Rattle.gathering.specs.Gathering.{SilentFrame}
 use Rattle.lines.specs.Lines.{lineFeed, idCharacters, fields, idIn}
-use Rattle.lines.specs.First.{behindLetter, FrameFirst}
+use Rattle.written.specs.First.{behindLetter, FrameFirst}
 use Rattle.answers.specs.Answers.{answered}
 use Rattle.answers.specs.Told.{Told}
 use Rattle.hearing.specs.Desk.{Desk, hears}

@@ -10,8 +10,8 @@ ghost use Rattle.answers.specs.Promise.{Tells, Continues, answerRoom};
 ghost use Rattle.hearing.specs.Promise.{deskOf};
 use answers::answer;
 use boot::Session;
-use lines::first::LINE_FEED;
 use lines::line::MOST_CHARACTERS;
+use written::first::LINE_FEED;
 
 // What is kept of a line: one character more than it may have tells that it is too long.
 pub const KEPT_CHARACTERS: usize = MOST_CHARACTERS + 1;

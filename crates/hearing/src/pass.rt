@@ -6,10 +6,9 @@ ghost use Rattle.frames.specs.Frames.{classic};
 ghost use Rattle.hearing.specs.Passing.{SilentLine, nods, PassesLines};
 use answers::answer::ANSWERED;
 use boot::Session;
-use lines::first;
-use lines::first::LINE_FEED;
 use lines::line::ID;
-use lines::written;
+use written::first;
+use written::first::LINE_FEED;
 
 // A line of a frame that is only gathered: where it ends, and how many data bytes it has; none where the line is another one.
 pub struct Silent {

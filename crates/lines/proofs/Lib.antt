@@ -1,4 +1,2 @@
 pub mod Reading
 pub mod Lines
-pub mod FrameFirst
-pub mod ReadBack

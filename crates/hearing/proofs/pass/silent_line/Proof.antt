@@ -7,9 +7,9 @@ use lib.Dec.{T}
 use mathlib.Core.List.{List}
 use lib.ListN.{length, drop}
 use Rattle.lines.specs.Lines.{fields}
-use Rattle.lines.specs.First.{behindLetter}
 use Rattle.lines.proofs.Lines.{frame-good, data-fits, length-fields}
-use Rattle.lines.proofs.FrameFirst.{first-long, data-part}
+use Rattle.written.specs.First.{behindLetter}
+use Rattle.written.proofs.FrameFirst.{first-long, data-part}
 use lib.Seq.{take-append-seam}
 use Rattle.words.proofs.Over.{put-front}
 use Rattle.hearing.proofs.pass.silent_line.Statement.{statement}

@@ -8,10 +8,10 @@ use lib.ListN.{length, drop, length-set}
 use lib.Seq.{drop-length}
 use Rattle.words.specs.Over.{put, newer}
 use Rattle.words.proofs.Over.{over-none, put-one, put-then}
 use Rattle.lines.specs.Lines.{areFields, fields}
 use Rattle.lines.proofs.Lines.{field-good, fields-first}
-use Rattle.lines.proofs.written.bytes.Statement.{statement}
-use Rattle.lines.proofs.written.bytes.Tie as tie
+use Rattle.written.proofs.bytes.Statement.{statement}
+use Rattle.written.proofs.bytes.Tie as tie
 
 abbrev Inv-loop : tie.InvT-loop
 Inv-loop rest out₀ n count₀ i₀ out count i = (i ≤ n) × (i ≡ 3 * count) × T (areFields (drop i rest)) × (count + length (fields (drop i rest)) ≡ length (fields rest)) × (put out count (fields (drop i rest)) ≡ put out₀ 0 (fields rest)) × (length out ≡ length out₀)

@@ -1,3 +1,6 @@
+// The bytes and the frames that the characters of a line write, and a line that writes a frame at the front of a text.
+pub mod first;
+
 ghost use mathlib.Core.Path.{_≡_};
 ghost use Prim.Native.Nat.{_*_, _≤_};
 ghost use lib.Dec.{T};
@@ -5,9 +8,9 @@ ghost use lib.ListN.{length};
 ghost use Rattle.words.specs.Hex.{fieldCharacters};
 ghost use Rattle.words.specs.Over.{put};
 ghost use Rattle.frames.specs.Frames.{classic, frameBytes};
 ghost use Rattle.lines.specs.Lines.{areFields, fields, areFrame, idIn, frameWritten};
-use crate::digits;
-use crate::line::ID;
+use lines::digits;
+use lines::line::ID;
 use words::FIELD;
 
 // Puts the bytes that hex bytes write at the front of a slice, and tells how many they are.

@@ -6,12 +6,12 @@ use mathlib.Core.Path.{sym, subst}
 use Prim.Native.Nat.{_≤_, _-_}
 use lib.Dec.{T}
 use lib.ListN.{take, getD}
 use Rattle.lines.specs.Lines.{areFields}
 use Rattle.lines.specs.Digits.{isDigit}
 use Prim.Native.Nat.{_+_}
-use Rattle.lines.proofs.FrameFirst.{one-field-more, field-by}
-use Rattle.lines.proofs.first.fields_first.Statement.{statement}
-use Rattle.lines.proofs.first.fields_first.Tie as tie
+use Rattle.written.proofs.FrameFirst.{one-field-more, field-by}
+use Rattle.written.proofs.first.fields_first.Statement.{statement}
+use Rattle.written.proofs.first.fields_first.Tie as tie
 
 abbrev Inv-loop : tie.InvT-loop
 Inv-loop rest n at₀ at = (at ≤ n) × T (areFields (take at rest))

@@ -5,9 +5,9 @@ use mathlib.Core.Path.{sym, subst}
 use lib.Dec.{T}
 use Prim.Native.Nat.{_+_}
 use Rattle.words.proofs.Slices.{to-the-end}
-use Rattle.lines.proofs.FrameFirst.{frame-at}
-use Rattle.lines.proofs.first.frame_first.Statement.{statement}
-use Rattle.lines.proofs.first.frame_first.Tie as tie
+use Rattle.written.proofs.FrameFirst.{frame-at}
+use Rattle.written.proofs.first.frame_first.Statement.{statement}
+use Rattle.written.proofs.first.frame_first.Tie as tie
 
 pub frame-first-spec : {M : Type 1} → statement M
 frame-first-spec =

@@ -1,11 +1,11 @@
 ghost use Prim.Native.Nat.{_≤_, _<_};
 ghost use lib.Dec.{T};
 ghost use lib.ListN.{length, take};
 ghost use Rattle.lines.specs.Lines.{areFields};
-ghost use Rattle.lines.specs.First.{FrameFirst};
-use crate::digits;
-use crate::line::FRAME_LETTER;
-use crate::line::ID;
+ghost use Rattle.written.specs.First.{FrameFirst};
+use lines::digits;
+use lines::line::FRAME_LETTER;
+use lines::line::ID;
 use words::FIELD;
 use words::SPACE;
 

@@ -2,9 +2,9 @@
 use borrow.Author.Needs.{needs}
 use native.Mathlib.Omega.{arith}
 use mathlib.Core.Path.{_∙_}
 use Rattle.lines.proofs.Lines.{frame-good}
-use Rattle.lines.proofs.written.id.Statement.{statement}
-use Rattle.lines.proofs.written.id.Tie as tie
+use Rattle.written.proofs.id.Statement.{statement}
+use Rattle.written.proofs.id.Tie as tie
 
 pub id-spec : {M : Type 1} → statement M
 id-spec =

@@ -10,11 +10,11 @@ use lib.Seq.{length-take-le, split-at}
 use borrow.Author.Tests.{eq-eqb, ne-eqb, le-leb, lt-ltb}
 use Rattle.words.proofs.Tests.{both-left, both-right, holds-true}
 use Rattle.words.specs.Hex.{space}
 use Rattle.lines.specs.Digits.{isDigit}
 use Rattle.lines.specs.Lines.{lineFeed, letterC, isField, areFields, areFrame, kindOf}
-use Rattle.lines.specs.First.{endless, behindLetter, FrameFirst}
 use Rattle.lines.specs.declared.Kind.the-variants.{Frame}
 use Rattle.lines.proofs.Lines.{frame-good}
+use Rattle.written.specs.First.{endless, behindLetter, FrameFirst}
 
 -- a field behind fields makes fields
 pub one-field-more : (s : List ℕ) (k : ℕ) → k + 3 ≤ length s → T (areFields (take k s)) → T (isField (getD s k 0) (getD s (k + 1) 0) (getD s (k + 2) 0))

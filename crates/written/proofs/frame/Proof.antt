@@ -5,9 +5,9 @@ use mathlib.Core.Path.{refl, sym, _∙_}
 use lib.ListN.{replicate, length-drop}
 use lib.Seq.{length-take-le}
 use Rattle.words.proofs.Slices.{to-the-end}
 use Rattle.lines.proofs.Lines.{frame-good, frame-made, data-fits}
-use Rattle.lines.proofs.written.frame.Statement.{statement}
-use Rattle.lines.proofs.written.frame.Tie as tie
+use Rattle.written.proofs.frame.Statement.{statement}
+use Rattle.written.proofs.frame.Tie as tie
 
 pub frame-spec : {M : Type 1} → statement M
 frame-spec =

@@ -1,0 +1,2 @@
+pub mod FrameFirst
+pub mod ReadBack
