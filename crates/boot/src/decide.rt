@@ -37,10 +37,9 @@ impl Session {
 
     // What one UART byte decides, which can be said and carried out, given the session with the byte taken.
     pub(crate) fn decide_byte(self, byte: u8, taken: Session, usd: &[u8]) -> Decision
-        requires { ⌜ T (sound self) × (taken ≡ gathered (byte ∷ []) self) × (length (now usd) ≡ extentOf Usd .bytes) ⌝ }
+        requires { ⌜ T (sound self) × (taken ≡ gathered (byte ∷ []) self) × (length (now usd) ≡ extentOf Usd .bytes) × (getD (taken .staged) 0 0 < 256) ⌝ }
         ensures { λ r. ⌜ (r ≡ decideByte self (now (usd .entry)) byte) × T (sayable (r .reply)) × T (fits (r .change) (taken .staged)) ⌝ }
     {
-        words::first(&taken.staged);
         let here = self.on(Carrier::Uart);
         if here {
             uart_deciding::heard(

@@ -1,7 +1,7 @@
 ghost use mathlib.Core.Path.{_≡_};
 ghost use mathlib.Core.List.{[], _∷_};
 ghost use Prim.Native.Nat.{_+_, _<_, _≤_};
-ghost use lib.ListN.{length, take};
+ghost use lib.ListN.{length, getD, take};
 ghost use Rattle.words.specs.Over.{put};
 ghost use Rattle.memories.specs.Effects.{stagedBytes};
 ghost use Rattle.boot.specs.Session.{on, idleExpects, entered, idle, atSpeed, running, stepSound, sound, gathered, after};
@@ -121,13 +121,15 @@ impl Session {
         self
     }
 
-    // The session with one byte taken.
+    // The session with one byte taken; of its first staged byte a caller thereby knows that it is below 256.
     pub(crate) fn gather_byte(self, byte: u8) -> Session
         requires { ⌜ (self .taken < self .expected) × (self .expected ≤ stagedBytes) ⌝ }
-        ensures { λ r. ⌜ r ≡ gathered (byte ∷ []) self ⌝ }
+        ensures { λ r. ⌜ (r ≡ gathered (byte ∷ []) self) × (getD (r .staged) 0 0 < 256) ⌝ }
     {
         let new = [byte];
-        self.gather(&new)
+        let taken = self.gather(&new);
+        words::first(&taken.staged);
+        taken
     }
 
     // The session after an input of a carrier, given the session with the input's bytes taken.
