@@ -1,2 +1,3 @@
 pub mod Telling
-pub mod Passing
+pub mod Whole
+pub mod Example

@@ -1,3 +1,5 @@
 pub mod Told
 pub mod Answers
 pub mod Promise
+pub mod Desk
+pub mod Example

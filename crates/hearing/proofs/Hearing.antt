@@ -13,7 +13,7 @@ use borrow.Author.Tests.{lt-ltb, le-ltb}
 use Rattle.words.specs.Over.{put}
 use Rattle.lines.specs.Lines.{lineFeed}
 use Rattle.answers.specs.Told.{Told, quiet, _then_}
-use Rattle.hearing.specs.Desk.{Desk, keptCharacters, keep, kept, lineEnds, hears}
+use Rattle.answers.specs.Desk.{Desk, keptCharacters, keep, kept, lineEnds, hears}
 use Rattle.answers.specs.Promise.{Tells}
 
 -- a character stored behind others is kept behind them

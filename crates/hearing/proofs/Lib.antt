@@ -1,4 +1,1 @@
 pub mod Hearing
-mod Passing
-pub mod Whole
-pub mod Example

@@ -1,4 +1,1 @@
-pub mod Desk
 pub mod Promise
-pub mod Passing
-pub mod Example

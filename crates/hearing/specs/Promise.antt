@@ -3,7 +3,7 @@ use Prim.Native.Nat.{ℕ}
 use mathlib.Core.List.{List}
 use lib.ListN.{take}
 use Rattle.boot.specs.Promise.{stateOf}
-use Rattle.hearing.specs.Desk as D
+use Rattle.answers.specs.Desk as D
 use Rattle.hearing.specs.declared.Desk.{Desk}
 
 -- the desk of the code's numbers and what is lent to it

@@ -1,14 +1,11 @@
-pub mod pass;
-
 ghost use mathlib.Core.Path.{_≡_};
 ghost use Prim.Native.Nat.{_+_, _*_, _^_, _≤_, _<_};
 ghost use lib.ListN.{length, take, drop};
 ghost use Rattle.answers.specs.Answers.{deskRoom};
 ghost use Rattle.answers.specs.Told.{_then_};
-ghost use Rattle.hearing.specs.Desk.{keptCharacters, keep, lineEnds, hears, inputEnds};
+ghost use Rattle.answers.specs.Desk.{keptCharacters, keep, lineEnds, hears, inputEnds};
 ghost use Rattle.answers.specs.Promise.{Tells, Continues, answerRoom};
 ghost use Rattle.hearing.specs.Promise.{deskOf};
-use answers::answer;
 use boot::Session;
 use lines::line::MOST_CHARACTERS;
 use written::first::LINE_FEED;
@@ -59,7 +56,7 @@ fn end_line(
     let session = desk.session;
     let number = desk.lines + 1;
     let kept = desk.kept;
-    let told = answer::answer(
+    let told = answering::answer(
         session,
         number,
         &line[..kept],
@@ -94,10 +91,10 @@ fn go_on(
 {
     let next = end_line(desk, line, flash, sram, usd, out);
     let session = next.session;
-    let gathered = pass::gather(session, rest, flash.len(), sram.len(), usd.len());
+    let gathered = passing::gather(session, rest, flash.len(), sram.len(), usd.len());
     let passed = gathered.session;
     let lines = gathered.lines;
-    let end = pass::nod(lines, out, next.end);
+    let end = passing::nod(lines, out, next.end);
     Heard {
         desk: Desk {
             session: passed,

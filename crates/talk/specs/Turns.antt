@@ -4,7 +4,7 @@ use mathlib.Core.Path.{_≡_}
 use mathlib.Core.List.{List}
 use lib.ListN.{length}
 use Rattle.answers.specs.Answers.{deskRoom}
-use Rattle.hearing.specs.Desk.{keptCharacters}
+use Rattle.answers.specs.Desk.{keptCharacters}
 use Rattle.hearing.specs.declared.Desk.{Desk}
 
 -- the most characters that one read brings

@@ -3,7 +3,7 @@ ghost use mathlib.Core.Path.{_≡_};
 ghost use Prim.Native.Nat.{_+_, _^_, _≤_, _<_};
 ghost use lib.ListN.{length};
 ghost use Rattle.memories.specs.Memories.{freshMemories};
-ghost use Rattle.hearing.specs.Desk.{keptCharacters};
+ghost use Rattle.answers.specs.Desk.{keptCharacters};
 ghost use Rattle.talk.specs.Turns.{readCharacters, outCharacters, Ready};
 use board::Board;
 use boot::Session;

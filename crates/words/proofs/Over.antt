@@ -8,7 +8,7 @@ use native.Mathlib.Numerals.{add-one}
 use native.Mathlib.Omega.{arith}
 use lib.Dec.{leb, ltb}
 use lib.ListN.{length, getD, set, take, drop, replicate, length-replicate, replicate-append-replicate}
-use lib.Seq.{take-suc, drop-length, length-take-le}
+use lib.Seq.{take-suc, take-append-seam, drop-length, length-take-le}
 use borrow.Author.Tests.{leb-true, leb-false, ltb-true, ltb-false}
 use Rattle.words.specs.Choice.{if_then_else_}
 use Rattle.words.specs.Over.{over, newer, put, within}
@@ -120,6 +120,10 @@ pub put-front : (m new : List ℕ) → length new ≤ length m → put m 0 new �
 put-front m [] h = over-none newer m 0
 put-front [] (b ∷ new) h = absurd (not-suc-le-zero h)
 put-front (x ∷ m) (b ∷ new) h = ap (λ (r : List ℕ). b ∷ r) (put-front m new (le-of-suc-le-suc h))
+
+-- bytes put at the front of a room stand in its first places
+pub at-front : (l m : List ℕ) (n : ℕ) → length l ≡ n → n ≤ length m → take n (put m 0 l) ≡ l
+at-front l m n e h = rw (put-front m l (omega arith), ← e) (take-append-seam l (drop (length l) m))
 
 -- as many bytes as there are replace them all
 pub put-all : (m new : List ℕ) → length new ≡ length m → put m 0 new ≡ new

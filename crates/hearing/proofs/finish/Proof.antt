@@ -6,7 +6,7 @@ use lib.Seq.{length-take-le}
 use borrow.Author.Tests.{lt-ltb, le-ltb}
 use Rattle.words.specs.Over.{newer}
 use Rattle.words.proofs.Over.{over-none}
-use Rattle.hearing.specs.Desk.{inputEnds}
+use Rattle.answers.specs.Desk.{inputEnds}
 use Rattle.hearing.proofs.finish.Statement.{statement}
 use Rattle.hearing.proofs.finish.Tie as tie
 

@@ -3,7 +3,7 @@ use borrow.Author.Needs.{needs}
 use native.Mathlib.Omega.{arith}
 use mathlib.Core.Path.{refl}
 use Rattle.hearing.specs.Promise.{deskOf}
-use Rattle.hearing.proofs.Passing.{gone-on}
+use Rattle.passing.proofs.Passing.{gone-on}
 use Rattle.hearing.proofs.go_on.Statement.{statement}
 use Rattle.hearing.proofs.go_on.Tie as tie
 

@@ -7,7 +7,7 @@ use lib.Seq.{drop-length, drop-drop}
 use borrow.Author.Tests.{eq-eqb, ne-eqb}
 use Rattle.words.proofs.Slices.{to-the-end}
 use Rattle.answers.specs.Answers.{deskRoom}
-use Rattle.hearing.specs.Desk.{keptCharacters, hears}
+use Rattle.answers.specs.Desk.{keptCharacters, hears}
 use Rattle.hearing.specs.Promise.{deskOf}
 use Rattle.answers.specs.Promise.{Continues}
 use Rattle.answers.proofs.Telling.{all-left, left-of-left, none-left}

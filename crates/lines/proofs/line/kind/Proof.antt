@@ -4,7 +4,7 @@ use native.Mathlib.Omega.{arith}
 use mathlib.Core.Path.{_∙_, ap}
 use mathlib.Core.List.{List}
 use Prim.Native.Nat.{ℕ}
-use lib.ListN.{length, getD}
+use lib.ListN.{getD}
 use Rattle.words.proofs.Slices.{to-the-end}
 use Rattle.lines.specs.Lines.{kindBy}
 use Rattle.lines.proofs.Lines.{kind-empty, kind-within, kind-beyond}
