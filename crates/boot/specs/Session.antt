@@ -64,18 +64,6 @@ sound s =
 
 -- ---- the sessions that follow
 
--- power on: speed 2, expected 1 and every other number 0
-abbrev pub fresh : Session
-fresh = record {
-  carrier = carrierNo None;
-  step = 0;
-  taken = 0;
-  expected = resting;
-  address = 0;
-  speed = freshSpeed;
-  staged = noBytes;
-}
-
 -- an entered step has taken 0, and its staged bytes are 0
 abbrev pub entered : Carrier → ℕ → ℕ → ℕ → ℕ → Session
 entered c step e a v = record {
@@ -87,6 +75,10 @@ entered c step e a v = record {
   speed = v;
   staged = noBytes;
 }
+
+-- power on: speed 2, expected 1 and every other number 0
+abbrev pub fresh : Session
+fresh = entered None 0 resting 0 freshSpeed
 
 -- idle on a carrier, at a speed, with the address 0
 abbrev pub idle : Carrier → ℕ → Session

@@ -1,8 +1,21 @@
 ghost use mathlib.Core.Path.{_≡_};
+ghost use mathlib.Core.Bool.{not, _||_};
+ghost use Prim.Native.Nat.{_+_, _≤_, _<_};
+ghost use lib.Dec.{eqb, ltb};
+ghost use Rattle.board.specs.Quantities.{largestCount};
+ghost use Rattle.command.specs.Decision.{if_gives_else_, answer, nack};
+ghost use Rattle.command.specs.declared.Next.the-variants.{Gather};
+ghost use Rattle.command.specs.declared.Reply.the-variants.{Silence};
+ghost use Rattle.command.specs.declared.Why.the-variants.{BadRange, OtherFrame};
+ghost use Rattle.frames.specs.Frames.{classic};
 ghost use Rattle.can.specs.Steps.{stepNo, stepOf, expects};
 ghost use Rattle.can.specs.Conversation.{bears};
 use board::Board;
 use board::LessOne;
+use command::Decision;
+use command::Next;
+use command::Reply;
+use command::Why;
 use command::code;
 
 // The steps of the CAN conversation, idle first.
@@ -71,5 +84,42 @@ pub fn bears(step: u8, id: u16) -> u16
         Step::WriteData => code::WRITE_MEMORY as u16,
         Step::EraseList => code::ERASE as u16,
         Step::ProtectList => code::PROGRAM_PROTECT as u16,
+    }
+}
+
+// A frame that comes while gathering: one of another ID, or empty, ends the command and is not used; others are gathered until all bytes are there.
+pub fn gathering(
+    running: u8,
+    taken: usize,
+    expected: usize,
+    id: u16,
+    dlc: usize,
+    done: Decision,
+) -> Decision
+    requires { ⌜ (taken < expected) × (expected ≤ largestCount) × (dlc ≤ classic .largest) ⌝ }
+    ensures { λ r. ⌜ r ≡ (if not (eqb id running) || eqb dlc 0 gives nack OtherFrame else if ltb (taken + dlc) expected gives answer Silence Gather else done) ⌝ }
+{
+    let other = (id != running as u16) | (dlc == 0);
+    if other {
+        return command::nack(Why::OtherFrame);
+    }
+    let more = taken + dlc < expected;
+    if more {
+        command::answer(Reply::Silence, Next::Gather)
+    } else {
+        done
+    }
+}
+
+// A decision on a list, unless its last frame has extra bytes.
+pub fn unless_extra(taken: usize, expected: usize, dlc: usize, decision: Decision) -> Decision
+    requires { ⌜ (taken < expected) × (expected ≤ largestCount) × (dlc ≤ classic .largest) ⌝ }
+    ensures { λ r. ⌜ r ≡ (if ltb expected (taken + dlc) gives nack BadRange else decision) ⌝ }
+{
+    let extra = expected < taken + dlc;
+    if extra {
+        command::nack(Why::BadRange)
+    } else {
+        decision
     }
 }

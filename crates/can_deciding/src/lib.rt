@@ -1,67 +1,22 @@
 mod obey;
 
 ghost use mathlib.Core.Path.{_≡_};
-ghost use mathlib.Core.Bool.{not, _||_};
 ghost use mathlib.Core.List.{[]};
-ghost use Prim.Native.Nat.{_+_, _≤_, _<_};
-ghost use lib.Dec.{T, eqb, ltb};
+ghost use Prim.Native.Nat.{_≤_, _<_};
+ghost use lib.Dec.{T};
 ghost use lib.ListN.{length};
 ghost use Rattle.board.specs.Board.{extentOf, sectors};
 ghost use Rattle.board.specs.Quantities.{largestCount};
 ghost use Rattle.board.specs.declared.Region.the-variants.{Usd};
 ghost use Rattle.memories.specs.Effects.{stagedBytes};
-ghost use Rattle.command.specs.Decision.{if_gives_else_, answer, nack};
 ghost use Rattle.command.specs.Progress.{progressAt};
-ghost use Rattle.command.specs.declared.Next.the-variants.{Gather};
-ghost use Rattle.command.specs.declared.Reply.the-variants.{Silence};
-ghost use Rattle.command.specs.declared.Why.the-variants.{BadRange, OtherFrame};
 ghost use Rattle.frames.specs.Frames.{classic, frameOf};
 ghost use Rattle.can.specs.Steps.{stepOf, expects, expectedForNumbers};
 ghost use Rattle.can.specs.Conversation.{decided};
 use board::Address;
 use can::Step;
 use command::Decision;
-use command::Next;
-use command::Reply;
-use command::Why;
 use command::code;
-
-// A frame that comes while gathering: one of another ID, or empty, ends the command and is not used; others are gathered until all bytes are there.
-fn gathering(
-    running: u8,
-    taken: usize,
-    expected: usize,
-    id: u16,
-    dlc: usize,
-    done: Decision,
-) -> Decision
-    requires { ⌜ (taken < expected) × (expected ≤ largestCount) × (dlc ≤ classic .largest) ⌝ }
-    ensures { λ r. ⌜ r ≡ (if not (eqb id running) || eqb dlc 0 gives nack OtherFrame else if ltb (taken + dlc) expected gives answer Silence Gather else done) ⌝ }
-{
-    let other = (id != running as u16) | (dlc == 0);
-    if other {
-        return command::nack(Why::OtherFrame);
-    }
-    let more = taken + dlc < expected;
-    if more {
-        command::answer(Reply::Silence, Next::Gather)
-    } else {
-        done
-    }
-}
-
-// A decision on a list, unless its last frame has extra bytes.
-fn unless_extra(taken: usize, expected: usize, dlc: usize, decision: Decision) -> Decision
-    requires { ⌜ (taken < expected) × (expected ≤ largestCount) × (dlc ≤ classic .largest) ⌝ }
-    ensures { λ r. ⌜ r ≡ (if ltb expected (taken + dlc) gives nack BadRange else decision) ⌝ }
-{
-    let extra = expected < taken + dlc;
-    if extra {
-        command::nack(Why::BadRange)
-    } else {
-        decision
-    }
-}
 
 // A frame that comes while a write's data are gathered.
 fn write_frame(
@@ -75,7 +30,7 @@ fn write_frame(
     requires { ⌜ (taken < expected) × (expected ≤ largestCount) × (length (now usd) ≡ extentOf Usd .bytes) × (length (now carried) ≤ classic .largest) ⌝ }
     ensures { λ r. ⌜ r ≡ decided Step.WriteData (progressAt taken expected address []) (now (usd .entry)) (frameOf id (now (carried .entry))) ⌝ }
 {
-    gathering(
+    can::gathering(
         code::WRITE_MEMORY,
         taken,
         expected,
@@ -98,13 +53,13 @@ fn erase_frame(
     ensures { λ r. ⌜ r ≡ decided Step.EraseList (progressAt taken expected 0 (now (bytes .entry))) (now (usd .entry)) (frameOf id (now (carried .entry))) ⌝ }
 {
     let done = deciding::erase::erase(usd, bytes, expected / 2);
-    gathering(
+    can::gathering(
         code::ERASE,
         taken,
         expected,
         id,
         carried.len(),
-        unless_extra(taken, expected, carried.len(), done),
+        can::unless_extra(taken, expected, carried.len(), done),
     )
 }
 
@@ -114,13 +69,13 @@ fn protect_frame(taken: usize, expected: usize, bytes: &[u8], id: u16, carried: 
     ensures { λ r. ⌜ r ≡ decided Step.ProtectList (progressAt taken expected 0 (now (bytes .entry))) [] (frameOf id (now (carried .entry))) ⌝ }
 {
     let done = deciding::protect::protect(bytes, expected);
-    gathering(
+    can::gathering(
         code::PROGRAM_PROTECT,
         taken,
         expected,
         id,
         carried.len(),
-        unless_extra(taken, expected, carried.len(), done),
+        can::unless_extra(taken, expected, carried.len(), done),
     )
 }
 

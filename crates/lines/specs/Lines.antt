@@ -64,7 +64,7 @@ idIn l = valueOf (getD l 1 0) * 256 + valueOf (getD l 2 0) * 16 + valueOf (getD 
 abbrev pub frameWritten : List ℕ → List ℕ
 frameWritten l = frame classic (idIn l) (fields (drop idCharacters l))
 
--- what a line of no more than the most characters says by its letter and what follows it: `U` and one or more hex bytes; `P`; `C`, an ID and data
+-- what a line says by its letter and what follows it: `U` and one or more hex bytes; `P`; `C`, an ID and data
 abbrev pub kindBy : ℕ → List ℕ → Kind
 kindBy letter rest =
     if eqb letter letterU && ltb 0 (length rest) && areFields rest then Bytes
@@ -72,7 +72,7 @@ kindBy letter rest =
     else if eqb letter letterC && areFrame rest then Frame
     else Other
 
--- which kind a line is
+-- which kind a line is, where it has no more than the most characters
 unfoldable pub kindOf : List ℕ → Kind
 kindOf [] = Other
-kindOf (letter ∷ rest) = if ltb (length rest) mostCharacters then kindBy letter rest else Other
+kindOf (letter ∷ rest) = if leb (length (letter ∷ rest)) mostCharacters then kindBy letter rest else Other

@@ -16,6 +16,7 @@ use Rattle.memories.specs.declared.Change.the-variants.{Nothing, Write, EraseAl
 use Rattle.command.specs.Commands.{protected}
 use Rattle.command.specs.Decision.{answer, nack}
 use Rattle.command.specs.Progress.{Progress}
+use Rattle.command.specs.Says.{fixed}
 use Rattle.command.specs.declared.Command.{Command}
 use Rattle.command.specs.declared.Command.the-variants.{GetCommands, GetVersion, GetDeviceId, ReadMemory, Jump, WriteMemory, Erase, ProgramProtect, ProgramUnprotect, AccessProtect, AccessUnprotect, FirmwareCrc, ResetDevice, Speed}
 use Rattle.command.specs.declared.Decision.{Decision}
@@ -84,19 +85,6 @@ unfoldable pub calm : Session → Bool
 calm s = calmStep (s .carrier) (s .step)
 
 -- ---- decisions that keep a locked board's secret
-
--- a reply depends on no memory at all
-abbrev pub fixed : Reply → Bool
-fixed Silence = true
-fixed Ack = true
-fixed AckAck = true
-fixed (Nack w) = true
-fixed (AckNack w) = true
-fixed Commands = true
-fixed Version = true
-fixed DeviceId = true
-fixed (Data r at x) = false
-fixed (Crc at n) = false
 
 -- no change, or Access Unprotect
 abbrev pub harmless : Change → Bool

@@ -13,7 +13,7 @@ use Rattle.memories.specs.declared.Change.{Change}
 use Rattle.memories.specs.declared.Change.the-variants.{Nothing, Write, EraseAll, EraseSectors, ProtectOnly, Release, Lock, Unlock}
 use Rattle.command.specs.Decision.{if_gives_else_, answer}
 use Rattle.command.specs.Progress.{stagedWith}
-use Rattle.command.specs.Says.{says}
+use Rattle.command.specs.Says.{says, fixed}
 use Rattle.command.specs.declared.Decision.{Decision}
 use Rattle.command.specs.declared.Next.the-variants.{Stay}
 use Rattle.command.specs.declared.Reply.{Reply}
@@ -29,7 +29,7 @@ use Rattle.boot.specs.declared.Cause.the-variants.{Accepted}
 use Rattle.boot.specs.declared.Session.{Session}
 use Rattle.theorems.specs.Failures.{reads}
 use Rattle.theorems.specs.Secrecy.{unlocks, opens, shut, veiled, Seen, seen, seenOf, Alike, Demand3}
-use Rattle.theorems.proofs.Locked.{calm, fixed, harmless, Discreet, decide-discreet, after-calm, gathered-calm}
+use Rattle.theorems.proofs.Locked.{calm, harmless, Discreet, decide-discreet, after-calm, gathered-calm}
 
 -- ---- what a discreet act shows of the memories, and does to them
 

@@ -60,7 +60,8 @@ acks (Crc at n) = false
 abbrev pub stagedAfter : Input → Session → List ℕ
 stagedAfter i s = stagedWith (progress s) (brings i)
 
--- ---- (a) the padding of a last frame was programmed
+-- ---- (a) the padding of a last frame was programmed: "a completed write changes at most the X bytes it names, whatever else its last
+-- frame carried"
 
 -- a session gathers the data of a write
 abbrev pub inWrite : Session → Bool
@@ -84,7 +85,8 @@ OnlyNamedBytes =
     (i : Input) (p : State) → T (inWrite (p .session)) → (a : Address) → T (not (isNamed (p .session) a))
     → byteAt a (call i p .state .memories) ≡ byteAt a (p .memories)
 
--- ---- (b) half a list was erased before a bad number refused it
+-- ---- (b) half a list was erased before a bad number refused it: "an erase that is refused, for any reason and at any point of its conversation,
+-- leaves every byte of every memory as it was, and no byte of flash changes before the last byte or frame of the list"
 
 -- a reply refuses
 abbrev pub refuses : Reply → Bool
@@ -132,7 +134,8 @@ pub record EraseAllOrNothing : Type 0 where
   pub accepted : (i : Input) (p : State) → T (inEraseList (p .session)) → T (acks (done i p .reply))
       → T (all isSector (toErase i (p .session))) × T (not (any (writeProtected (p .memories .usd)) (toErase i (p .session))))
 
--- ---- (c) a locked board was read
+-- ---- (c) a locked board was read: "a board that is locked when it is powered on never decides to read, whatever comes in, until an obeyed Access
+-- Unprotect (by its wiping): no byte of flash, SRAM or USD is sent, the CRC value apart"
 
 -- a reply holds bytes of a memory
 abbrev pub reads : Reply → Bool
@@ -165,7 +168,7 @@ pub record Unread (p : State) : Type 0 where
 abbrev pub NeverRead : Type 0
 NeverRead = (m : Memories) → T (proper m) → T (protectionOn (m .usd)) → Unread (powered m)
 
--- ---- (d) other sectors than the named ones were protected
+-- ---- (d) other sectors than the named ones were protected: "after an accepted 0x63 exactly the named sectors are protected"
 
 -- a session gathers the indexes of 0x63; the sectors that they name
 abbrev pub inProtect : Session → Bool

@@ -1,4 +1,5 @@
--- Demand 3: two locked boards that differ in flash and SRAM answer alike until an obeyed Access Unprotect, and agree in everything after it.
+-- Demand 3: "Two locked boards, freshly powered, alike in user system data and different in flash and SRAM, answer alike (save the four CRC
+-- value bytes) until an obeyed Access Unprotect, and neither flash nor SRAM changes before it; after it they agree in everything."
 use Prim.Native.Nat.{ℕ, _+_}
 use mathlib.Core.Path.{_≡_}
 use mathlib.Core.Bool.{Bool, true, false, not, _&&_}

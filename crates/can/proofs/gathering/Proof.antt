@@ -1,8 +1,8 @@
 -- By the two tests: another ID or no byte, and more to come.
 use borrow.Author.Needs.{needs}
 use Rattle.command.specs.Decision.{if_gives_else_}
-use Rattle.can_deciding.proofs.gathering.Statement.{statement}
-use Rattle.can_deciding.proofs.gathering.Tie as tie
+use Rattle.can.proofs.gathering.Statement.{statement}
+use Rattle.can.proofs.gathering.Tie as tie
 
 pub gathering-spec : {M : Type 1} → statement M
 unfolding if_gives_else_

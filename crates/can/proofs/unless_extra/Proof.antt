@@ -1,8 +1,8 @@
 -- By the test.
 use borrow.Author.Needs.{needs}
 use Rattle.command.specs.Decision.{if_gives_else_}
-use Rattle.can_deciding.proofs.unless_extra.Statement.{statement}
-use Rattle.can_deciding.proofs.unless_extra.Tie as tie
+use Rattle.can.proofs.unless_extra.Statement.{statement}
+use Rattle.can.proofs.unless_extra.Tie as tie
 
 pub unless-extra-spec : {M : Type 1} → statement M
 unfolding if_gives_else_
