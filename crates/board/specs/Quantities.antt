@@ -6,8 +6,8 @@ use lib.ListN.{take}
 use lib.Dec.{eqb, ltb}
 use Rattle.words.specs.Lists.{any, countFrom, pairs}
 use Rattle.board.specs.Board.{sectors}
-use Rattle.board.specs.declared.Address.{Address}
-use Rattle.board.specs.declared.Extent.{Extent}
+use Rattle.constants.specs.declared.Address.{Address}
+use Rattle.constants.specs.declared.Extent.{Extent}
 use Rattle.board.specs.declared.LessOne.{LessOne}
 use Rattle.board.specs.declared.Sector.{Sector}
 

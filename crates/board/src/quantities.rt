@@ -2,11 +2,11 @@ ghost use mathlib.Core.Path.{_≡_};
 ghost use Prim.Native.Nat.{_≤_, _<_};
 ghost use Rattle.board.specs.Board.{extentOf};
 ghost use Rattle.board.specs.Quantities.{largestCount, countOf, oneLess, startOf, sectorAt, offsetIn};
-use crate::Address;
-use crate::Board;
 use crate::LessOne;
 use crate::Region;
 use crate::Sector;
+use constants::Address;
+use constants::Board;
 
 impl LessOne {
     // The largest count that one byte sends as one less.
@@ -45,14 +45,14 @@ impl Sector {
     }
 }
 
-impl Address {
-    // How far the address lies behind a region's first one, and 0 before it.
-    pub fn offset(self, region: Region) -> usize
-        ensures { λ r. ⌜ r ≡ offsetIn (extentOf region) self ⌝ }
+impl Region {
+    // How far an address lies behind the region's first one, and 0 before it.
+    pub fn offset(self, address: Address) -> usize
+        ensures { λ r. ⌜ r ≡ offsetIn (extentOf self) address ⌝ }
     {
-        let extent = Board::extent(region);
+        let extent = self.extent();
         let first = extent.first.0;
-        let this = self.0;
+        let this = address.0;
         if this < first {
             return 0;
         }

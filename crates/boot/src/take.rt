@@ -14,8 +14,8 @@ use crate::Carrier;
 use crate::Cause;
 use crate::Session;
 use crate::Taken;
-use board::Board;
 use command::Decision;
+use constants::Board;
 
 // Whether flash, SRAM and USD have their lengths.
 pub fn lengths_right(flash: usize, sram: usize, usd: usize) -> bool

@@ -3,9 +3,9 @@ ghost use Rattle.io.specs.Counts.{Counts};
 ghost use Rattle.calls.specs.Sizes.{vectorBytes, shortBytes, longBytes};
 use crate::SHORT;
 use crate::wide;
-use board::Board;
 use boot::Session;
 use boot::Taken;
+use constants::Board;
 
 // How many bytes a vector has, and where its parts stand.
 pub const BYTES: usize = 83;

@@ -8,7 +8,6 @@ ghost use Rattle.board.specs.Quantities.{isSector, firstNumbered};
 ghost use Rattle.board.specs.Usd.{writeProtected};
 ghost use Rattle.board.specs.declared.Region.the-variants.{Usd};
 ghost use Rattle.rules.specs.Rules.{selectorOf, eraseVerdict, erasing, eraseAllVerdict};
-use board::Board;
 use board::LessOne;
 use board::Sector;
 use command::Decision;
@@ -16,6 +15,7 @@ use command::Next;
 use command::Reply;
 use command::Verdict;
 use command::Why;
+use constants::Board;
 use memories::Change;
 use rules::Selector;
 
@@ -70,7 +70,7 @@ fn any_numbered_protected(usd: &[u8], staged: &[u8], x: usize) -> bool
     let mut j = 0;
     while j < end {
         let k = words::number2(staged[j], staged[j + 1]);
-        if Board::write_protected(usd, Sector(k)) {
+        if board::usd::write_protected(usd, Sector(k)) {
             return true;
         }
         j += 2;
@@ -115,7 +115,7 @@ pub fn erase_all_verdict(usd: &[u8], number: u32) -> Verdict
     if !all {
         return Verdict::No(Why::UnsupportedErase);
     }
-    let forbidden = Board::any_write_protected(usd, Sector(0), Board::SECTORS);
+    let forbidden = board::usd::any_write_protected(usd, Sector(0), Board::SECTORS);
     if forbidden {
         Verdict::No(Why::WriteProtected)
     } else {

@@ -1,18 +1,17 @@
 ghost use mathlib.Core.Path.{_≡_};
 ghost use Rattle.rules.specs.Rules.{jumping};
-use board::Address;
-use board::Board;
 use command::Decision;
 use command::Next;
 use command::Reply;
 use command::Why;
+use constants::Address;
 
 // A jump to an address in flash or SRAM.
 pub fn jump(address: Address) -> Decision
     ensures { λ r. ⌜ r ≡ jumping address ⌝ }
 {
     command::accept_if(
-        Board::jumpable(address),
+        board::range::jumpable(address),
         command::answer(Reply::Ack, Next::Run(address.0)),
         Why::BadAddress,
     )

@@ -4,11 +4,11 @@ ghost use lib.ListN.{length};
 ghost use Rattle.words.specs.Lists.{all};
 ghost use Rattle.board.specs.Quantities.{isSector, firstIndexed};
 ghost use Rattle.rules.specs.Rules.{protecting};
-use board::Board;
 use command::Decision;
 use command::Next;
 use command::Reply;
 use command::Why;
+use constants::Board;
 use memories::Change;
 
 // Whether the x staged indexes are all sectors of the board.

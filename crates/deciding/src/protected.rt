@@ -3,7 +3,6 @@ ghost use lib.ListN.{length};
 ghost use Rattle.board.specs.Board.{extentOf};
 ghost use Rattle.board.specs.declared.Region.the-variants.{Usd};
 ghost use Rattle.rules.specs.Rules.{unlessProtected};
-use board::Board;
 use command::Command;
 use command::Decision;
 use command::Why;
@@ -13,7 +12,7 @@ pub fn unless_protected(usd: &[u8], command: Command, decision: Decision) -> Dec
     requires { ⌜ length (now usd) ≡ extentOf Usd .bytes ⌝ }
     ensures { λ r. ⌜ r ≡ unlessProtected (now (usd .entry)) command decision ⌝ }
 {
-    let forbidden = Board::protection_on(usd) & command::protected::is_protected(command);
+    let forbidden = board::usd::protection_on(usd) & command::protected::is_protected(command);
     if forbidden {
         command::nack(Why::AccessProtected)
     } else {

@@ -1,12 +1,11 @@
 ghost use mathlib.Core.Path.{_≡_};
 ghost use Rattle.rules.specs.Rules.{readAt, reading};
-use board::Address;
-use board::Board;
 use board::Place;
 use command::Decision;
 use command::Next;
 use command::Reply;
 use command::Why;
+use constants::Address;
 
 // A read of x bytes at their place.
 fn read_at(place: Place, x: usize) -> Decision
@@ -23,8 +22,8 @@ pub fn read(address: Address, x: usize) -> Decision
     ensures { λ r. ⌜ r ≡ reading address x ⌝ }
 {
     command::accept_if(
-        Board::known(address),
-        read_at(Board::place(address, x), x),
+        board::range::known(address),
+        read_at(board::range::place(address, x), x),
         Why::BadAddress,
     )
 }

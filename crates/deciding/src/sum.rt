@@ -2,14 +2,14 @@ ghost use mathlib.Core.Path.{_≡_};
 ghost use Prim.Native.Nat.{_≤_};
 ghost use Rattle.board.specs.Quantities.{largestLongCount};
 ghost use Rattle.rules.specs.Rules.{sumAt, summing};
-use board::Address;
-use board::Board;
 use board::Place;
 use board::Region;
 use command::Decision;
 use command::Next;
 use command::Reply;
 use command::Why;
+use constants::Address;
+use constants::Board;
 
 // The checksum of n bytes at their place, which has to be in flash.
 fn sum_at(place: Place, n: usize) -> Decision
@@ -31,8 +31,8 @@ pub fn sum(address: Address, x: usize) -> Decision
 {
     let n = x * Board::SECTOR_BYTES;
     command::accept_if(
-        Board::sector_start(address),
-        sum_at(Board::place(address, n), n),
+        board::range::sector_start(address),
+        sum_at(board::range::place(address, n), n),
         Why::BadAddress,
     )
 }

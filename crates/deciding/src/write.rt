@@ -8,8 +8,6 @@ ghost use Rattle.board.specs.Regions.{touched};
 ghost use Rattle.board.specs.Usd.{writeProtected};
 ghost use Rattle.board.specs.declared.Region.the-variants.{Flash, Usd};
 ghost use Rattle.rules.specs.Rules.{writeVerdictAt, writeVerdict, afterWrite, writeAt, writing};
-use board::Address;
-use board::Board;
 use board::Place;
 use board::Region;
 use board::Sector;
@@ -18,6 +16,8 @@ use command::Next;
 use command::Reply;
 use command::Verdict;
 use command::Why;
+use constants::Address;
+use constants::Board;
 use memories::Change;
 
 // Whether x bytes of flash from an offset on touch a write-protected sector.
@@ -27,7 +27,7 @@ fn touches_protected(usd: &[u8], at: usize, x: usize) -> bool
 {
     let first = Sector::at(at);
     let last = Sector::at(at + x - 1);
-    Board::any_write_protected(usd, first, (last.0 - first.0) as usize + 1)
+    board::usd::any_write_protected(usd, first, (last.0 - first.0) as usize + 1)
 }
 
 // Whether x bytes may be written into flash.
@@ -60,9 +60,9 @@ pub fn write_verdict(usd: &[u8], address: Address, x: usize) -> Verdict
     requires { ⌜ (length (now usd) ≡ extentOf Usd .bytes) × (0 < x) ⌝ }
     ensures { λ r. ⌜ r ≡ writeVerdict (now (usd .entry)) address x ⌝ }
 {
-    let known = Board::known(address);
+    let known = board::range::known(address);
     if known {
-        let place = Board::place(address, x);
+        let place = board::range::place(address, x);
         match place {
             Place::In(region, at) => match region {
                 Region::Flash => flash_verdict(usd, at, x),
@@ -108,6 +108,6 @@ pub fn write(usd: &[u8], address: Address, x: usize) -> Decision
 {
     command::judged(
         write_verdict(usd, address, x),
-        write_at(Board::place(address, x), x),
+        write_at(board::range::place(address, x), x),
     )
 }

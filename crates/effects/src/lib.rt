@@ -11,9 +11,9 @@ ghost use Rattle.board.specs.declared.Region.the-variants.{Flash, Usd};
 ghost use Rattle.memories.specs.Memories.{memories, proper};
 ghost use Rattle.memories.specs.Protection.{released, alsoProtected, onlyProtected, locked};
 ghost use Rattle.memories.specs.Effects.{blank, erased, written, effect, fits};
-use board::Board;
 use board::Region;
 use board::Sector;
+use constants::Board;
 use memories::Change;
 use memories::ERASED;
 use memories::STAGED;
@@ -114,7 +114,7 @@ fn unlock(flash: &mut [u8], sram: &mut [u8], usd: &mut [u8])
     requires { ⌜ T (proper (memories (now flash) (now sram) (now usd))) ⌝ }
     ensures { λ _. ⌜ memories (now (flash .exit)) (now (sram .exit)) (now (usd .exit)) ≡ effect Change.Unlock [] (memories (now (flash .entry)) (now (sram .entry)) (now (usd .entry))) ⌝ }
 {
-    let on = Board::protection_on(usd);
+    let on = board::usd::protection_on(usd);
     if on {
         fill_all(flash, ERASED);
         fill_all(sram, WIPED);

@@ -7,7 +7,7 @@ use lib.Dec.{T, eqb}
 use Rattle.words.specs.Choice.{if_then_else_}
 use Rattle.words.proofs.Tests.{both-left, both-right}
 use Rattle.board.specs.Usd.{protectionOn}
-use Rattle.board.specs.declared.Address.{Address}
+use Rattle.constants.specs.declared.Address.{Address}
 use Rattle.board.specs.declared.Place.{Place}
 use Rattle.board.specs.declared.Place.the-variants.{In, Nowhere}
 use Rattle.board.specs.declared.Region.the-variants.{Flash, Sram, Usd}

@@ -1,7 +1,7 @@
 ghost use mathlib.Core.Path.{_≡_};
 ghost use Rattle.uart.specs.Steps.{stepNo, stepOf, expects};
-use board::Board;
 use board::LessOne;
+use constants::Board;
 
 // The steps of the UART conversation, idle first.
 pub enum Step {

@@ -10,12 +10,11 @@ ghost use Rattle.command.specs.declared.Why.the-variants.{BadAddress, BadChecks
 ghost use Rattle.rules.specs.Rules.{jumping};
 ghost use Rattle.uart.specs.Steps.{stepNo};
 ghost use Rattle.uart.specs.Conversation.{checks, addressed, keptIf};
-use board::Address;
-use board::Board;
 use command::Decision;
 use command::Next;
 use command::Reply;
 use command::Why;
+use constants::Address;
 use deciding::sent;
 use uart::Step;
 
@@ -48,7 +47,10 @@ pub fn region_address(bytes: &[u8], next: Step, expected: usize) -> Decision
     ensures { λ r. ⌜ r ≡ addressed (keptIf known next expected) (now (bytes .entry)) ⌝ }
 {
     let address = sent::address_in(bytes);
-    addressed(bytes, kept(Board::known(address), next, expected, address))
+    addressed(
+        bytes,
+        kept(board::range::known(address), next, expected, address),
+    )
 }
 
 // The end of the address of 0xAC.
@@ -59,7 +61,7 @@ pub fn crc_address(bytes: &[u8], next: Step, expected: usize) -> Decision
     let address = sent::address_in(bytes);
     addressed(
         bytes,
-        kept(Board::sector_start(address), next, expected, address),
+        kept(board::range::sector_start(address), next, expected, address),
     )
 }
 

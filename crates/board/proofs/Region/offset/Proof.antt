@@ -1,8 +1,8 @@
 -- An address before the region is 0 behind its first one, as subtraction of numbers has it.
 use borrow.Author.Needs.{needs}
 use native.Mathlib.Omega.{arith}
-use Rattle.board.proofs.Address.offset.Statement.{statement}
-use Rattle.board.proofs.Address.offset.Tie as tie
+use Rattle.board.proofs.Region.offset.Statement.{statement}
+use Rattle.board.proofs.Region.offset.Tie as tie
 
 pub offset-spec : {M : Type 1} → statement M
 offset-spec =

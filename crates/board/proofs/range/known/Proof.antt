@@ -1,8 +1,8 @@
 -- By the place.
 use borrow.Author.Needs.{needs}
 use mathlib.Core.Path.{sym, _∙_}
-use Rattle.board.proofs.Board.known.Statement.{statement}
-use Rattle.board.proofs.Board.known.Tie as tie
+use Rattle.board.proofs.range.known.Statement.{statement}
+use Rattle.board.proofs.range.known.Tie as tie
 
 pub known-spec : {M : Type 1} → statement M
 known-spec =

@@ -4,8 +4,8 @@ use native.Mathlib.Omega.{arith}
 use Prim.Native.Nat.{_+_, _-_}
 use borrow.Author.Tests.{le-leb, lt-leb}
 use Rattle.words.proofs.Tests.{same-order}
-use Rattle.board.proofs.Board.holds.Statement.{statement}
-use Rattle.board.proofs.Board.holds.Tie as tie
+use Rattle.board.proofs.Region.holds.Statement.{statement}
+use Rattle.board.proofs.Region.holds.Tie as tie
 
 pub holds-spec : {M : Type 1} → statement M
 holds-spec =

@@ -2,8 +2,8 @@
 use borrow.Author.Needs.{needs}
 use mathlib.Core.Path.{sym, _∙_}
 use Rattle.board.specs.Regions.{placeOf}
-use Rattle.board.proofs.Board.place.Statement.{statement}
-use Rattle.board.proofs.Board.place.Tie as tie
+use Rattle.board.proofs.range.place.Statement.{statement}
+use Rattle.board.proofs.range.place.Tie as tie
 
 pub place-spec : {M : Type 1} → statement M
 unfolding placeOf

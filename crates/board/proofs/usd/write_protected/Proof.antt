@@ -4,8 +4,8 @@ use native.Mathlib.Omega.{arith}
 use lib.Bits.{and-mask}
 use lib.Dec.{ltb→lt}
 use Rattle.board.specs.Usd.{writeProtected}
-use Rattle.board.proofs.Board.write_protected.Statement.{statement}
-use Rattle.board.proofs.Board.write_protected.Tie as tie
+use Rattle.board.proofs.usd.write_protected.Statement.{statement}
+use Rattle.board.proofs.usd.write_protected.Tie as tie
 
 pub write-protected-spec : {M : Type 1} → statement M
 unfolding writeProtected

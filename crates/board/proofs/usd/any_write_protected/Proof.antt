@@ -7,8 +7,8 @@ use Rattle.words.specs.Lists.{any}
 use Rattle.board.specs.Quantities.{sector, sectorsFrom}
 use Rattle.board.specs.Usd.{writeProtected}
 use Rattle.board.proofs.InOrder.{any-first}
-use Rattle.board.proofs.Board.any_write_protected.Statement.{statement}
-use Rattle.board.proofs.Board.any_write_protected.Tie as tie
+use Rattle.board.proofs.usd.any_write_protected.Statement.{statement}
+use Rattle.board.proofs.usd.any_write_protected.Tie as tie
 
 abbrev Inv-loop : tie.InvT-loop
 Inv-loop usd n k₀ left₀ k left = (k + left ≡ k₀ + left₀) × (any (writeProtected usd) (sectorsFrom (sector k) left) ≡ any (writeProtected usd) (sectorsFrom (sector k₀) left₀))
