@@ -12,7 +12,7 @@ use Rattle.boot.specs.Session.{on, sound, gathered}
 use Rattle.boot.specs.Calls.{State, Byte}
 use Rattle.boot.specs.Promise.{stateOf}
 use Rattle.gathering.specs.Gathering.{Gathers}
-use Rattle.boot.specs.declared.Carrier.the-variants.{Uart}
+use Rattle.carriers.specs.declared.Carrier.the-variants.{Uart}
 use Rattle.boot.specs.declared.Session.{Session}
 use Rattle.gathering.proofs.Silent.{gathers-byte, gathered-more, gathered-sound}
 use Rattle.lines.specs.Lines as L

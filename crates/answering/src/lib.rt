@@ -21,7 +21,7 @@ use words::SPACE;
 use written::first::LINE_FEED;
 
 // The room for a reply: what either carrier needs.
-const ROOM: usize = reply::in_frames::ROOM;
+const ROOM: usize = can::ROOM;
 
 // How many characters begin the notice that bears a line's number.
 const NOTICE_BEGINS: usize = 2;

@@ -18,7 +18,7 @@ use Rattle.boot.specs.Session.{progress, gathered, after}
 use Rattle.boot.specs.Decide.{connected, decideFrame}
 use Rattle.boot.specs.Calls.{Input, carrierOf, brings, commandsOf, decide, sent, perform}
 use Rattle.boot.specs.Promise.{left, stateOf, acceptedTaken, Leaves}
-use Rattle.boot.specs.declared.Carrier.the-variants.{Can}
+use Rattle.carriers.specs.declared.Carrier.the-variants.{Can}
 use Rattle.boot.specs.declared.Session.{Session}
 use Rattle.boot.specs.declared.Taken.{Taken}
 

@@ -11,7 +11,7 @@ use Rattle.boot.specs.Session.{on, sound}
 use Rattle.boot.specs.Causes.{accepts, causeOf}
 use Rattle.boot.specs.Calls.{Outcome, causeFor, decide, perform, call}
 use Rattle.boot.specs.Promise.{Given, Left, left, refusedTaken, outcome, Leaves, Took}
-use Rattle.boot.specs.declared.Carrier.the-variants.{Running}
+use Rattle.carriers.specs.declared.Carrier.the-variants.{Running}
 use Rattle.boot.specs.declared.Cause.{Cause}
 use Rattle.boot.specs.declared.Cause.the-variants.{Accepted, WrongMemory, ShortReply, BadFrame, UnsoundSession, BoardRunning}
 use Rattle.boot.specs.declared.Session.{Session}

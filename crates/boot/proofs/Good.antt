@@ -19,8 +19,8 @@ use Rattle.frames.specs.Frames.{Frame, frameOf, carried}
 use Rattle.can.proofs.Good as CG
 use Rattle.boot.specs.Session.{on, progress, sound, gathered}
 use Rattle.boot.specs.Decide.{connected, decideByte, decideFrame}
-use Rattle.boot.specs.declared.Carrier.{Carrier}
-use Rattle.boot.specs.declared.Carrier.the-variants.{Uart, Can}
+use Rattle.carriers.specs.declared.Carrier.{Carrier}
+use Rattle.carriers.specs.declared.Carrier.the-variants.{Uart, Can}
 use Rattle.boot.specs.declared.Session.{Session}
 use Rattle.boot.proofs.Sound.{uart-expects, can-expects}
 

@@ -6,7 +6,7 @@ use lib.ListN.{take, replicate}
 use Rattle.command.specs.declared.Next.{Next}
 use Rattle.command.specs.declared.Next.the-variants.{Stay, Reset, Gather, GoIdle, SetSpeed, Enter, EnterAt, Run}
 use Rattle.boot.specs.Session.{fresh, gathered, after}
-use Rattle.boot.specs.declared.Carrier.the-variants.{Uart, Can}
+use Rattle.carriers.specs.declared.Carrier.the-variants.{Uart, Can}
 use Rattle.boot.specs.declared.Session.{Session}
 
 -- a session's numbers, and its first four staged bytes

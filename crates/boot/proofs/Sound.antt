@@ -11,8 +11,9 @@ use Rattle.uart.specs.Steps as U
 use Rattle.uart.proofs.Steps as UP
 use Rattle.can.specs.Steps as C
 use Rattle.can.proofs.Steps as CP
-use Rattle.boot.specs.Session.{on, stepSound, sound}
-use Rattle.boot.specs.declared.Carrier.the-variants.{Uart, Can}
+use Rattle.boot.specs.Session.{on, sound}
+use Rattle.carriers.specs.Carriers.{stepSound}
+use Rattle.carriers.specs.declared.Carrier.the-variants.{Uart, Can}
 use Rattle.boot.specs.declared.Session.{Session}
 
 module _ (s : Session) (t : T (sound s)) where

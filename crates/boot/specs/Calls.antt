@@ -20,8 +20,8 @@ use Rattle.frames.specs.Frames.{classic, frameIn, carried, isFrame, framed}
 use Rattle.boot.specs.Session.{fresh, on, progress, gathered, after}
 use Rattle.boot.specs.Decide.{decideByte, decideFrame}
 use Rattle.boot.specs.Causes.{causeOf, accepts}
-use Rattle.boot.specs.declared.Carrier.{Carrier}
-use Rattle.boot.specs.declared.Carrier.the-variants.{None, Uart, Can}
+use Rattle.carriers.specs.declared.Carrier.{Carrier}
+use Rattle.carriers.specs.declared.Carrier.the-variants.{None, Uart, Can}
 use Rattle.boot.specs.declared.Cause.{Cause}
 use Rattle.boot.specs.declared.Cause.the-variants.{Accepted}
 use Rattle.boot.specs.declared.Session.{Session}

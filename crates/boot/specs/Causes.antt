@@ -3,7 +3,7 @@ use Prim.Native.Nat.{ℕ}
 use mathlib.Core.Bool.{Bool, true, false, not}
 use Rattle.words.specs.Choice.{if_then_else_}
 use Rattle.boot.specs.Session.{on, sound}
-use Rattle.boot.specs.declared.Carrier.the-variants.{Running}
+use Rattle.carriers.specs.declared.Carrier.the-variants.{Running}
 use Rattle.boot.specs.declared.Cause.{Cause}
 use Rattle.boot.specs.declared.Cause.the-variants.{Accepted, WrongMemory, ShortReply, BadFrame, UnsoundSession, BoardRunning}
 use Rattle.boot.specs.declared.Session.{Session}

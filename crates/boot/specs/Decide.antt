@@ -13,8 +13,8 @@ use Rattle.can.specs.Steps as C
 use Rattle.can.specs.Conversation as CC
 use Rattle.frames.specs.Frames.{Frame}
 use Rattle.boot.specs.Session.{on, progress}
-use Rattle.boot.specs.declared.Carrier.{Carrier}
-use Rattle.boot.specs.declared.Carrier.the-variants.{None, Uart, Can}
+use Rattle.carriers.specs.declared.Carrier.{Carrier}
+use Rattle.carriers.specs.declared.Carrier.the-variants.{None, Uart, Can}
 use Rattle.boot.specs.declared.Session.{Session}
 
 -- a session that is not connected hears only the call to connect; other input changes nothing

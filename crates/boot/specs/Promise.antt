@@ -9,7 +9,7 @@ use Rattle.boot.specs.Session as S
 use Rattle.boot.specs.Session.{fresh}
 use Rattle.boot.specs.Causes.{causeNo}
 use Rattle.boot.specs.Calls.{State, Input, Byte, Framed, Outcome, call}
-use Rattle.boot.specs.declared.Carrier.{Carrier}
+use Rattle.carriers.specs.declared.Carrier.{Carrier}
 use Rattle.boot.specs.declared.Cause.{Cause}
 use Rattle.boot.specs.declared.Cause.the-variants.{Accepted}
 use Rattle.boot.specs.declared.Session.{Session}

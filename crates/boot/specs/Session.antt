@@ -4,39 +4,19 @@ use mathlib.Core.Bool.{Bool, _&&_}
 use mathlib.Core.List.{List}
 use lib.ListN.{length, replicate}
 use lib.Dec.{eqb, leb, ltb}
-use Rattle.words.specs.Choice.{if_then_else_}
 use Rattle.memories.specs.Effects.{stagedBytes}
 use Rattle.command.specs.Progress.{Progress, progressAt, fitting, stagedWith}
 use Rattle.command.specs.declared.Next.{Next}
 use Rattle.command.specs.declared.Next.the-variants.{Stay, Reset, Gather, GoIdle, SetSpeed, Enter, EnterAt, Run}
-use Rattle.uart.specs.Steps as U
-use Rattle.can.specs.Steps as C
 use Rattle.can.specs.Conversation.{largestSpeed}
-use Rattle.boot.specs.declared.Carrier.{Carrier}
-use Rattle.boot.specs.declared.Carrier.the-variants.{None, Uart, Can, Running}
+use Rattle.carriers.specs.Carriers.{carrierNo, resting, idleExpects, stepSound}
+use Rattle.carriers.specs.declared.Carrier.{Carrier}
+use Rattle.carriers.specs.declared.Carrier.the-variants.{None, Running}
 use Rattle.boot.specs.declared.Session.{Session}
-
--- the number of each carrier
-abbrev pub carrierNo : Carrier → ℕ
-carrierNo None = 0
-carrierNo Uart = 1
-carrierNo Can = 2
-carrierNo Running = 3
 
 -- a session is on a carrier
 abbrev pub on : Carrier → Session → Bool
 on c s = eqb (s .carrier) (carrierNo c)
-
--- none and running have only step 0, and expect 1
-abbrev pub resting : ℕ
-resting = 1
-
--- what an idle session expects on a carrier (on none and running nothing goes idle)
-abbrev pub idleExpects : Carrier → ℕ
-idleExpects None = resting
-idleExpects Uart = U.complementedByte
-idleExpects Can = C.oneFrame
-idleExpects Running = resting
 
 -- every staged byte is 0
 abbrev pub noBytes : List ℕ
@@ -47,13 +27,6 @@ abbrev pub freshSpeed : ℕ
 freshSpeed = 2
 
 -- ---- sound sessions
-
--- a step is one of the carrier's, and may expect this
-abbrev pub stepSound : ℕ → ℕ → ℕ → Bool
-stepSound c step e =
-    if eqb c (carrierNo Uart) then ltb step (length U.steps) && U.expects (U.stepOf step) e
-    else if eqb c (carrierNo Can) then ltb step (length C.steps) && C.expects (C.stepOf step) e
-    else eqb step 0 && eqb e resting
 
 -- unsound exactly when carrier or speed exceeds 3, the step is not one of the carrier's, expected is not allowed for the step, or taken is not below expected
 unfoldable pub sound : Session → Bool

@@ -3,25 +3,7 @@ pub mod steps;
 pub mod take;
 
 ghost use mathlib.Core.Path.{_≡_};
-ghost use Rattle.boot.specs.Session.{carrierNo};
 ghost use Rattle.boot.specs.Causes.{causeNo};
-
-// What a session is connected to.
-pub enum Carrier {
-    None,
-    Uart,
-    Can,
-    Running,
-}
-
-// The numbers of the carriers.
-const NONE: u8 = 0;
-
-const UART: u8 = 1;
-
-const CAN: u8 = 2;
-
-const RUNNING: u8 = 3;
 
 // Why a call is refused, and that it is not.
 pub enum Cause {
@@ -49,20 +31,6 @@ pub struct Taken {
     pub number: u8,
     pub length: usize,
     pub session: Session,
-}
-
-impl Carrier {
-    // The number of the carrier.
-    pub fn number(self) -> u8
-        ensures { λ r. ⌜ r ≡ carrierNo self ⌝ }
-    {
-        match self {
-            Carrier::None => NONE,
-            Carrier::Uart => UART,
-            Carrier::Can => CAN,
-            Carrier::Running => RUNNING,
-        }
-    }
 }
 
 impl Cause {

@@ -1,51 +1,18 @@
 ghost use mathlib.Core.Path.{_≡_};
 ghost use mathlib.Core.List.{[], _∷_};
-ghost use Prim.Native.Nat.{_+_, _<_, _≤_};
-ghost use lib.ListN.{length, getD, take};
-ghost use Rattle.words.specs.Over.{put};
+ghost use Prim.Native.Nat.{_<_, _≤_};
+ghost use lib.ListN.{getD};
 ghost use Rattle.memories.specs.Effects.{stagedBytes};
-ghost use Rattle.boot.specs.Session.{on, idleExpects, entered, idle, atSpeed, running, stepSound, sound, gathered, after};
+ghost use Rattle.boot.specs.Session.{on, entered, idle, atSpeed, running, sound, gathered, after};
 ghost use Rattle.boot.specs.Promise.{PoweredOn};
-use crate::Carrier;
 use crate::Session;
+use carriers::Carrier;
+use carriers::RESTING;
+use carriers::gather;
 use command::Next;
-
-// What carriers none and running expect.
-const RESTING: usize = 1;
 
 // The speed at power on.
 const FRESH_SPEED: u8 = 2;
-
-// What an idle session expects on a carrier.
-fn idle_expects(carrier: Carrier) -> usize
-    ensures { λ r. ⌜ r ≡ idleExpects carrier ⌝ }
-{
-    match carrier {
-        Carrier::None => RESTING,
-        Carrier::Uart => uart::COMPLEMENTED_BYTE,
-        Carrier::Can => can::ONE_FRAME,
-        Carrier::Running => RESTING,
-    }
-}
-
-// Whether a step is one of a carrier's, and may expect this.
-fn step_sound(carrier: u8, step: u8, expected: usize) -> bool
-    ensures { λ r. ⌜ r ≡ stepSound carrier step expected ⌝ }
-{
-    match carrier {
-        crate::UART => (step < uart::STEPS) & uart::Step::of(step).expects(expected),
-        crate::CAN => (step < can::STEPS) & can::Step::of(step).expects(expected),
-        _ => (step == 0) & (expected == RESTING),
-    }
-}
-
-// Puts the first n new bytes among the staged ones, from an index on.
-pub fn stage(staged: &mut [u8; memories::STAGED], at: usize, new: &[u8], n: usize)
-    requires { ⌜ (at + n ≤ stagedBytes) × (n ≤ length (now new)) ⌝ }
-    ensures { λ _. ⌜ now (staged .exit) ≡ put (now (staged .entry)) at (take n (now (new .entry))) ⌝ }
-{
-    words::copy(staged, at, new, 0, n);
-}
 
 impl Session {
     // A fresh session.
@@ -74,7 +41,7 @@ impl Session {
     fn idle(self, carrier: Carrier) -> Session
         ensures { λ r. ⌜ r ≡ idle carrier (self .speed) ⌝ }
     {
-        Session::enter(carrier, 0, idle_expects(carrier), 0, self.speed)
+        Session::enter(carrier, 0, carrier.idle_expects(), 0, self.speed)
     }
 
     // The session at another speed.
@@ -103,9 +70,9 @@ impl Session {
     pub fn sound(self) -> bool
         ensures { λ r. ⌜ r ≡ sound self ⌝ }
     {
-        (self.carrier <= crate::RUNNING)
+        (self.carrier <= carriers::RUNNING)
             & (self.speed <= can::LARGEST_SPEED)
-            & step_sound(self.carrier, self.step, self.expected)
+            & carriers::step_sound(self.carrier, self.step, self.expected)
             & (self.taken < self.expected)
     }
 
@@ -114,10 +81,9 @@ impl Session {
         requires { ⌜ (self .taken < self .expected) × (self .expected ≤ stagedBytes) ⌝ }
         ensures { λ r. ⌜ r ≡ gathered (now (new .entry)) self ⌝ }
     {
-        let at = self.taken;
-        let fit = words::least(self.expected - at, new.len());
-        stage(&mut self.staged, at, new, fit);
-        self.taken = at + fit;
+        let taken = self.taken;
+        let expected = self.expected;
+        self.taken = gather::gather(&mut self.staged, taken, expected, new);
         self
     }
 

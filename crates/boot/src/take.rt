@@ -10,10 +10,10 @@ ghost use Rattle.boot.specs.Session.{sound};
 ghost use Rattle.boot.specs.Causes.{accepts, causeOf};
 ghost use Rattle.boot.specs.Calls.{bears};
 ghost use Rattle.boot.specs.Promise.{left, givenByte, givenFrame, acceptedTaken, refusedTaken, Took};
-use crate::Carrier;
 use crate::Cause;
 use crate::Session;
 use crate::Taken;
+use carriers::Carrier;
 use command::Decision;
 use constants::Board;
 
@@ -73,11 +73,7 @@ impl Session {
     fn byte_cause(self, flash: usize, sram: usize, usd: usize, room: usize) -> Cause
         ensures { λ r. ⌜ r ≡ causeOf (lengthsRight flash sram usd) (leb UC.uartRoom room) true self ⌝ }
     {
-        self.cause(
-            lengths_right(flash, sram, usd),
-            reply::in_bytes::ROOM <= room,
-            true,
-        )
+        self.cause(lengths_right(flash, sram, usd), uart::has_room(room), true)
     }
 
     // Why a frame is refused, if it is, given the lengths of what else is lent.
@@ -86,7 +82,7 @@ impl Session {
     {
         self.cause(
             lengths_right(flash, sram, usd),
-            reply::in_frames::ROOM <= room,
+            can::has_room(room),
             frames::is_frame(frame),
         )
     }

@@ -1,7 +1,7 @@
 ghost use mathlib.Core.Path.{_≡_};
 ghost use mathlib.Core.Bool.{not, _||_};
 ghost use Prim.Native.Nat.{_+_, _≤_, _<_};
-ghost use lib.Dec.{eqb, ltb};
+ghost use lib.Dec.{eqb, leb, ltb};
 ghost use Rattle.board.specs.Quantities.{largestCount};
 ghost use Rattle.command.specs.Decision.{if_gives_else_, answer, nack};
 ghost use Rattle.command.specs.declared.Next.the-variants.{Gather};
@@ -9,7 +9,7 @@ ghost use Rattle.command.specs.declared.Reply.the-variants.{Silence};
 ghost use Rattle.command.specs.declared.Why.the-variants.{BadRange, OtherFrame};
 ghost use Rattle.frames.specs.Frames.{classic};
 ghost use Rattle.can.specs.Steps.{stepNo, stepOf, expects};
-ghost use Rattle.can.specs.Conversation.{bears};
+ghost use Rattle.can.specs.Conversation.{bears, canRoom};
 use board::LessOne;
 use command::Decision;
 use command::Next;
@@ -34,6 +34,16 @@ pub const ONE_FRAME: usize = 1;
 
 // The largest speed.
 pub const LARGEST_SPEED: u8 = 3;
+
+// The room that a reply may need, in frames.
+pub const ROOM: usize = 363;
+
+// Whether a reply buffer of this length has the room that a reply may need.
+pub fn has_room(length: usize) -> bool
+    ensures { λ r. ⌜ r ≡ leb canRoom length ⌝ }
+{
+    ROOM <= length
+}
 
 impl Step {
     // The number of the step.

@@ -29,12 +29,13 @@ use Rattle.can.specs.Conversation as CC
 use Rattle.can.specs.declared.Step as CS
 use Rattle.can.specs.declared.Step.the-variants as CSV
 use Rattle.uart.specs.Conversation.{uartRoom, heard}
-use Rattle.boot.specs.Session.{on, stepSound, sound, progress, gathered, after}
+use Rattle.boot.specs.Session.{on, sound, progress, gathered, after}
+use Rattle.carriers.specs.Carriers.{stepSound}
 use Rattle.boot.specs.Causes.{causeOf}
 use Rattle.boot.specs.Decide.{connected, decideByte, decideFrame}
 use Rattle.boot.specs.Calls.{State, Byte, Framed, Outcome, causeFor, decide, sent, perform, call}
 use Rattle.gathering.specs.Gathering.{HearsFrames, SilentFrame}
-use Rattle.boot.specs.declared.Carrier.the-variants.{Uart, Can}
+use Rattle.carriers.specs.declared.Carrier.the-variants.{Uart, Can}
 use Rattle.boot.specs.declared.Cause.the-variants.{Accepted}
 use Rattle.boot.specs.declared.Session.{Session}
 use Rattle.boot.proofs.Sound.{can-expects}

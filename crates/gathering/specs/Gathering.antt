@@ -6,7 +6,7 @@ use Rattle.memories.specs.Memories.{lengthsRight}
 use Rattle.can.specs.Steps.{stepOf}
 use Rattle.can.specs.Conversation.{bears}
 use Rattle.boot.specs.Session.{on, sound}
-use Rattle.boot.specs.declared.Carrier.the-variants.{Uart, Can}
+use Rattle.carriers.specs.declared.Carrier.the-variants.{Uart, Can}
 use Rattle.boot.specs.declared.Session.{Session}
 
 -- so many UART bytes are only gathered: memories of these lengths have theirs, and a sound session on UART expects more

@@ -1,8 +1,8 @@
 ghost use Prim.Native.Nat.{_≤_, _<_};
 ghost use lib.Dec.{T};
 ghost use Rattle.gathering.specs.Gathering.{Gathers, HearsFrames, SilentFrame};
-use boot::Carrier;
 use boot::Session;
+use carriers::Carrier;
 
 // How many of n bytes the session only gathers, given the lengths of the memories: taking them at once is taking them one by one.
 pub fn silent_bytes(session: Session, n: usize, flash: usize, sram: usize, usd: usize) -> usize

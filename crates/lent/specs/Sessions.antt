@@ -9,8 +9,9 @@ use Rattle.words.specs.Bytes.{number, byteOf, fourBytes}
 use Rattle.words.specs.Lists.{part}
 use Rattle.board.specs.Quantities.{addressBytes}
 use Rattle.memories.specs.Effects.{stagedBytes}
-use Rattle.boot.specs.Session.{carrierNo, noBytes}
-use Rattle.boot.specs.declared.Carrier.the-variants.{Running}
+use Rattle.boot.specs.Session.{noBytes}
+use Rattle.carriers.specs.Carriers.{carrierNo}
+use Rattle.carriers.specs.declared.Carrier.the-variants.{Running}
 use Rattle.boot.specs.declared.Session.{Session}
 
 -- how many bytes a session is lent in

@@ -76,7 +76,7 @@ pub fn gather(session: Session, text: &[u8], flash: usize, sram: usize, usd: usi
                 characters: i,
             };
         }
-        boot::steps::stage(&mut here.staged, at, &new, count);
+        carriers::gather::stage(&mut here.staged, at, &new, count);
         here.taken = at + count;
         lines += 1;
         i += silent.end + 1;

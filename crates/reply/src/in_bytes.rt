@@ -10,9 +10,6 @@ use crate::ACK;
 use crate::Fixed;
 use command::Reply;
 
-// The room that a reply may need.
-pub const ROOM: usize = crate::ROOM;
-
 // The bytes of the answer to 0x00, one less than on CAN.
 const LISTED: usize = crate::LONGEST - 1;
 

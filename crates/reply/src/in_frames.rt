@@ -16,9 +16,6 @@ use frames::BYTES;
 use frames::CLASSIC;
 use frames::put;
 
-// The room that a reply may need.
-pub const ROOM: usize = 363;
-
 // n - 1, where n counts version and commands.
 const N_LESS_ONE: u8 = 0x0E;
 
@@ -59,7 +56,7 @@ pub fn say(reply: Reply, id: u16, flash: &[u8], sram: &[u8], usd: &[u8], buffer:
     requires { ⌜ T (proper (memories (now flash) (now sram) (now usd))) × T (sayable reply) × (canRoom ≤ length (now buffer)) ⌝ }
     ensures { λ r. ⌜ Said (framed classic id (says commandBytes reply (memories (now (flash .entry)) (now (sram .entry)) (now (usd .entry))))) r (now (buffer .entry)) (now (buffer .exit)) ⌝ }
 {
-    let mut bytes = [0u8; crate::ROOM];
+    let mut bytes = [0u8; uart::ROOM];
     let n = crate::say(commands(), reply, flash, sram, usd, &mut bytes);
     put_reply(id, &bytes[..n], piece_of(reply), buffer)
 }

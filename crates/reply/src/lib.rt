@@ -15,7 +15,6 @@ ghost use Rattle.crc.specs.Crc.{crc};
 ghost use Rattle.memories.specs.Memories.{Memories, memories, proper, bytesOf};
 ghost use Rattle.command.specs.Says.{replyRoom, ackByte, says, sayable, fixed, Said};
 ghost use Rattle.reply.specs.Fixed.{fixedRoom, listing, Holds, Lists};
-use board::LessOne;
 use board::Region;
 use command::Reply;
 use command::code;
@@ -41,9 +40,6 @@ const VERSION_LENGTH: usize = 5;
 const DEVICE_LENGTH: usize = 8;
 
 const SUM_LENGTH: usize = 5;
-
-// The most bytes of a reply: ACK and the bytes of the largest read.
-pub const ROOM: usize = LessOne::LARGEST + 1;
 
 // The bytes of the longest fixed reply, that to 0x00 on CAN.
 pub const LONGEST: usize = 18;

@@ -17,7 +17,7 @@ use memories::ERASED;
 const READ_CHARACTERS: usize = 4096;
 
 // The room for what one read makes it print, whatever it brings.
-const OUT_CHARACTERS: usize = reply::in_frames::ROOM * (KEPT_CHARACTERS + READ_CHARACTERS);
+const OUT_CHARACTERS: usize = can::ROOM * (KEPT_CHARACTERS + READ_CHARACTERS);
 
 // How many reads are made at most, a number that no run uses up.
 const TURNS: u64 = 0x0008_0000_0000_0000;

@@ -23,8 +23,8 @@ use Rattle.command.specs.declared.Reply.the-variants.{Silence}
 use Rattle.boot.specs.Session.{idle, after, progress, gathered}
 use Rattle.boot.specs.Causes.{accepts}
 use Rattle.boot.specs.Calls.{done, State, Input, carrierOf, brings, causeFor, decide, perform, refused, call, run}
-use Rattle.boot.specs.declared.Carrier.{Carrier}
-use Rattle.boot.specs.declared.Carrier.the-variants.{None, Uart, Can, Running}
+use Rattle.carriers.specs.declared.Carrier.{Carrier}
+use Rattle.carriers.specs.declared.Carrier.the-variants.{None, Uart, Can, Running}
 use Rattle.boot.specs.declared.Cause.{Cause}
 use Rattle.boot.specs.declared.Session.{Session}
 use Rattle.theorems.specs.Failures.{acks, refuses, isRefused, inErase, erasePending, inEraseList, toErase, EraseAllOrNothing}

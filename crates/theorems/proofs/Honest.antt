@@ -32,7 +32,7 @@ use Rattle.can.specs.declared.Step as CS
 use Rattle.boot.specs.Session.{progress}
 use Rattle.boot.specs.Decide.{connected, decideByte, decideFrame}
 use Rattle.boot.specs.Calls.{Input, Power, Byte, Framed, decide}
-use Rattle.boot.specs.declared.Carrier.{Carrier}
+use Rattle.carriers.specs.declared.Carrier.{Carrier}
 use Rattle.boot.specs.declared.Session.{Session}
 use Rattle.theorems.specs.Failures.{refuses}
 use Rattle.command.proofs.Holds.{Holds, either, judged-either}

@@ -17,12 +17,13 @@ use Rattle.uart.specs.Conversation as UC
 use Rattle.can.specs.Steps as C
 use Rattle.can.specs.Conversation as CC
 use Rattle.frames.specs.Frames.{frameIn}
-use Rattle.boot.specs.Session.{on, carrierNo, progress}
+use Rattle.boot.specs.Session.{on, progress}
+use Rattle.carriers.specs.Carriers.{carrierNo}
 use Rattle.boot.specs.Decide.{connected, decideByte, decideFrame}
 use Rattle.boot.specs.Causes.{causeOf, accepts}
 use Rattle.boot.specs.Calls.{State, Input, Power, Byte, Framed, causeFor, decide}
-use Rattle.boot.specs.declared.Carrier.{Carrier}
-use Rattle.boot.specs.declared.Carrier.the-variants.{None, Uart, Can}
+use Rattle.carriers.specs.declared.Carrier.{Carrier}
+use Rattle.carriers.specs.declared.Carrier.the-variants.{None, Uart, Can}
 use Rattle.boot.specs.declared.Cause.{Cause}
 use Rattle.boot.specs.declared.Cause.the-variants.{WrongMemory}
 use Rattle.boot.specs.declared.Session.{Session}

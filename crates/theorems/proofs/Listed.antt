@@ -32,7 +32,7 @@ use Rattle.can.specs.Steps as C
 use Rattle.can.specs.declared.Step as CS
 use Rattle.boot.specs.Session.{on, progress}
 use Rattle.boot.specs.Calls.{Input, Power, Byte, Framed, decide}
-use Rattle.boot.specs.declared.Carrier.the-variants.{Uart}
+use Rattle.carriers.specs.declared.Carrier.the-variants.{Uart}
 use Rattle.boot.specs.declared.Session.{Session}
 use Rattle.theorems.specs.Failures.{acks, stagedAfter, countOfBytes, inProtect, inEraseList, toErase}
 use Rattle.command.proofs.Holds.{Holds, either}

@@ -35,11 +35,12 @@ use Rattle.can.specs.Steps as C
 use Rattle.can.specs.Conversation as CC
 use Rattle.frames.specs.Frames.{Frame, frameIn}
 use Rattle.can.specs.declared.Step as CS
-use Rattle.boot.specs.Session.{on, carrierNo, progress, gathered, after}
+use Rattle.boot.specs.Session.{on, progress, gathered, after}
+use Rattle.carriers.specs.Carriers.{carrierNo}
 use Rattle.boot.specs.Decide.{connected, decideByte, decideFrame}
 use Rattle.boot.specs.Calls.{Input, Power, Byte, Framed, carrierOf, decide}
-use Rattle.boot.specs.declared.Carrier.{Carrier}
-use Rattle.boot.specs.declared.Carrier.the-variants.{None, Uart, Can, Running}
+use Rattle.carriers.specs.declared.Carrier.{Carrier}
+use Rattle.carriers.specs.declared.Carrier.the-variants.{None, Uart, Can, Running}
 use Rattle.boot.specs.declared.Session.{Session}
 use Rattle.theorems.specs.Failures.{reads}
 use Rattle.theorems.specs.Secrecy.{unlocks}

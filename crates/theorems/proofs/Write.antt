@@ -37,7 +37,7 @@ use Rattle.can.specs.declared.Step as CS
 use Rattle.boot.specs.Session.{on, progress}
 use Rattle.boot.specs.Causes.{accepts}
 use Rattle.boot.specs.Calls.{State, Input, Power, Byte, Framed, brings, causeFor, decide, perform, refused, call}
-use Rattle.boot.specs.declared.Carrier.the-variants.{Uart}
+use Rattle.carriers.specs.declared.Carrier.the-variants.{Uart}
 use Rattle.boot.specs.declared.Session.{Session}
 use Rattle.theorems.specs.Failures.{inWrite, countOfBytes, isNamed, byteIn, byteAt, OnlyNamedBytes}
 use Rattle.command.proofs.Holds.{Holds, either, judged-either}

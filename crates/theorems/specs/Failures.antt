@@ -28,7 +28,7 @@ use Rattle.can.specs.declared.Step as CS
 use Rattle.boot.specs.Session.{on, progress}
 use Rattle.boot.specs.Causes.{accepts}
 use Rattle.boot.specs.Calls.{State, powered, Input, brings, commandsOf, sent, causeFor, call, done, run}
-use Rattle.boot.specs.declared.Carrier.the-variants.{Uart, Can}
+use Rattle.carriers.specs.declared.Carrier.the-variants.{Uart, Can}
 use Rattle.boot.specs.declared.Session.{Session}
 use Rattle.theorems.specs.Secrecy.{shut, veiled}
 

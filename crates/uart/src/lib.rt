@@ -1,5 +1,7 @@
 ghost use mathlib.Core.Path.{_≡_};
+ghost use lib.Dec.{leb};
 ghost use Rattle.uart.specs.Steps.{stepNo, stepOf, expects};
+ghost use Rattle.uart.specs.Conversation.{uartRoom};
 use board::LessOne;
 use constants::Board;
 
@@ -48,6 +50,16 @@ pub const MOST_NUMBERED: usize = 2 * Board::SECTORS + 1;
 
 // What a count of two bytes and its checksum take.
 pub const CHECKED_COUNT: usize = 3;
+
+// The room that a reply may need: ACK and the bytes of the largest read.
+pub const ROOM: usize = LessOne::LARGEST + 1;
+
+// Whether a reply buffer of this length has the room that a reply may need.
+pub fn has_room(length: usize) -> bool
+    ensures { λ r. ⌜ r ≡ leb uartRoom length ⌝ }
+{
+    ROOM <= length
+}
 
 impl Step {
     // The number of the step.

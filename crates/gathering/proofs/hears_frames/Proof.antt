@@ -4,7 +4,7 @@ use Rattle.memories.specs.Memories.{lengthsRight}
 use Rattle.words.proofs.Tests.{holds-true}
 use mathlib.Core.Bool.{_&&_}
 use Rattle.boot.specs.Session.{on, sound}
-use Rattle.boot.specs.declared.Carrier.the-variants.{Can}
+use Rattle.carriers.specs.declared.Carrier.the-variants.{Can}
 use Rattle.gathering.proofs.Silent.{all-three}
 use Rattle.gathering.proofs.hears_frames.Statement.{statement}
 use Rattle.gathering.proofs.hears_frames.Tie as tie

@@ -3,7 +3,7 @@ use borrow.Author.Needs.{needs}
 use native.Mathlib.Omega.{arith}
 use Rattle.memories.specs.Memories.{lengthsRight}
 use Rattle.boot.specs.Session.{on, sound}
-use Rattle.boot.specs.declared.Carrier.the-variants.{Uart}
+use Rattle.carriers.specs.declared.Carrier.the-variants.{Uart}
 use Rattle.boot.proofs.Sound.{sound-taken}
 use Rattle.gathering.proofs.Silent.{all-three}
 use Rattle.gathering.proofs.silent_bytes.Statement.{statement}

@@ -9,4 +9,5 @@ byte-cause-spec =
     (tie.spec
     (λ c κs. search needs)
     (λ c κs. search needs)
-    (λ c. rw (← (c .before .lengths-right .ensures)) ((c .cause .ensures))))
+    (λ c κs. search needs)
+    (λ c. rw (← (c .before .before .lengths-right .ensures), ← (c .before .has-room .ensures)) (c .cause .ensures)))

@@ -10,4 +10,5 @@ frame-cause-spec =
     (λ c κs. search needs)
     (λ c κs. search needs)
     (λ c κs. search needs)
-    (λ c. rw (← (c .before .before .lengths-right .ensures), ← (c .before .is-frame .ensures)) ((c .cause .ensures))))
+    (λ c κs. search needs)
+    (λ c. rw (← (c .before .before .before .lengths-right .ensures), ← (c .before .before .has-room .ensures), ← (c .before .is-frame .ensures)) (c .cause .ensures)))

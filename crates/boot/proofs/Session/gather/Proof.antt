@@ -1,7 +1,5 @@
--- As many bytes as are still expected, or as there are, are put at index taken.
+-- Gathering puts the bytes among the staged ones, and tells how many are taken.
 use borrow.Author.Needs.{needs}
-use Rattle.boot.specs.Session.{progress}
-use Rattle.command.proofs.Progress.{so-many-fit}
 use Rattle.boot.proofs.Session.gather.Statement.{statement}
 use Rattle.boot.proofs.Session.gather.Tie as tie
 
@@ -9,8 +7,5 @@ pub gather-spec : {M : Type 1} → statement M
 gather-spec =
     tie.close
     (tie.spec
-    (λ c. search needs)
     (λ c κs. search needs)
-    (λ c κs. search needs)
-    (λ c. search needs)
-    (λ c. let f = so-many-fit (progress (c .before .before .before .before .args .t1)) ((c .before .before .before .before .args .new .now)) (c .before .before .least .result) (c .before .before .least .ensures) in rw ((c .stage .ensures), f .1, f .0)))
+    (λ c. rw ((c .gather .ensures .0), (c .gather .ensures .1))))

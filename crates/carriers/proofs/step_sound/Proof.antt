@@ -1,8 +1,8 @@
 -- By the carrier: each test is the rule's.
 use borrow.Author.Needs.{needs}
 use borrow.Author.Tests.{ne-eqb}
-use Rattle.boot.proofs.steps.step_sound.Statement.{statement}
-use Rattle.boot.proofs.steps.step_sound.Tie as tie
+use Rattle.carriers.proofs.step_sound.Statement.{statement}
+use Rattle.carriers.proofs.step_sound.Tie as tie
 
 pub step-sound-spec : {M : Type 1} → statement M
 step-sound-spec =
