@@ -14,7 +14,6 @@ use answers::ANSWERED;
 use answers::NOT_UNDERSTOOD;
 use boot::Session;
 use lines::Kind;
-use lines::digits;
 use lines::line;
 use words::FIELD;
 use words::SPACE;
@@ -113,7 +112,7 @@ fn tell_bytes(
         if n <= i {
             continue;
         }
-        let byte = digits::byte_in(rest[i + 1], rest[i + 2]);
+        let byte = written::byte_at(rest, i);
         told = tell_byte(next, byte, flash, sram, usd, out, told.end);
         i += FIELD;
     }

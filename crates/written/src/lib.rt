@@ -2,16 +2,25 @@
 pub mod first;
 
 ghost use mathlib.Core.Path.{_≡_};
-ghost use Prim.Native.Nat.{_*_, _≤_};
+ghost use Prim.Native.Nat.{_+_, _*_, _≤_, _<_};
 ghost use lib.Dec.{T};
-ghost use lib.ListN.{length};
+ghost use lib.ListN.{length, getD, drop};
 ghost use Rattle.words.specs.Hex.{fieldCharacters};
 ghost use Rattle.words.specs.Over.{put};
 ghost use Rattle.frames.specs.Frames.{classic, frameBytes};
+ghost use Rattle.lines.specs.Digits.{byteIn};
 ghost use Rattle.lines.specs.Lines.{areFields, fields, areFrame, idIn, frameWritten};
 use lines::digits;
 use lines::line::ID;
 use words::FIELD;
+
+// The byte that the hex byte at a place writes.
+pub fn byte_at(rest: &[u8], i: usize) -> u8
+    requires { ⌜ (i < length (now rest)) × T (areFields (drop i (now rest))) ⌝ }
+    ensures { λ r. ⌜ r ≡ byteIn (getD (now (rest .entry)) (i + 1) 0) (getD (now (rest .entry)) (i + 2) 0) ⌝ }
+{
+    digits::byte_in(rest[i + 1], rest[i + 2])
+}
 
 // Puts the bytes that hex bytes write at the front of a slice, and tells how many they are.
 pub fn bytes(rest: &[u8], out: &mut [u8]) -> usize
@@ -22,7 +31,7 @@ pub fn bytes(rest: &[u8], out: &mut [u8]) -> usize
     let mut count = 0;
     let mut i = 0;
     while i < n {
-        out[count] = digits::byte_in(rest[i + 1], rest[i + 2]);
+        out[count] = byte_at(rest, i);
         count += 1;
         i += FIELD;
     }
