@@ -52,7 +52,7 @@ fn erase_frame(
     requires { ⌜ (taken < expected) × (expected ≤ expectedForNumbers (sectors .count)) × (length (now bytes) ≡ stagedBytes) × (length (now usd) ≡ extentOf Usd .bytes) × (length (now carried) ≤ classic .largest) ⌝ }
     ensures { λ r. ⌜ r ≡ decided Step.EraseList (progressAt taken expected 0 (now (bytes .entry))) (now (usd .entry)) (frameOf id (now (carried .entry))) ⌝ }
 {
-    let done = deciding::erase::erase(usd, bytes, expected / 2);
+    let done = list_deciding::erase::erase(usd, bytes, expected / 2);
     can::gathering(
         code::ERASE,
         taken,
@@ -68,7 +68,7 @@ fn protect_frame(taken: usize, expected: usize, bytes: &[u8], id: u16, carried: 
     requires { ⌜ (taken < expected) × (expected ≤ largestCount) × (length (now bytes) ≡ stagedBytes) × (length (now carried) ≤ classic .largest) ⌝ }
     ensures { λ r. ⌜ r ≡ decided Step.ProtectList (progressAt taken expected 0 (now (bytes .entry))) [] (frameOf id (now (carried .entry))) ⌝ }
 {
-    let done = deciding::protect::protect(bytes, expected);
+    let done = list_deciding::protect::protect(bytes, expected);
     can::gathering(
         code::PROGRAM_PROTECT,
         taken,

@@ -108,7 +108,7 @@ fn selected(usd: &[u8], selector: Selector) -> Decision
             Next::Enter(Step::EraseList.number(), 2 * sent.count()),
         ),
         Selector::Special(number) => {
-            erased_or_not(deciding::erase::erase_all_verdict(usd, number as u32))
+            erased_or_not(list_deciding::erase::erase_all_verdict(usd, number as u32))
         }
         Selector::Impossible => command::nack(Why::BadRange),
     }
@@ -121,7 +121,7 @@ fn erase(usd: &[u8], carried: &[u8]) -> Decision
 {
     selected(
         usd,
-        deciding::erase::selector_of(words::number2(carried[0], carried[1])),
+        list_deciding::erase::selector_of(words::number2(carried[0], carried[1])),
     )
 }
 

@@ -1,8 +1,6 @@
-// What each command decides, as the rules say: no memory but user system data is seen.
+// What each command decides that names no list of sectors, as the rules say: no memory but user system data is seen.
 pub mod at_once;
-pub mod erase;
 pub mod jump;
-pub mod protect;
 pub mod protected;
 pub mod read;
 pub mod sent;

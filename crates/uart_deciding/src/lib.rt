@@ -101,7 +101,7 @@ fn selector_ends(bytes: &[u8]) -> Decision
     requires { ⌜ length (now bytes) ≡ stagedBytes ⌝ }
     ensures { λ r. ⌜ r ≡ complete Step.EraseSelector selectorBytes 0 (now (bytes .entry)) [] ⌝ }
 {
-    selected(deciding::erase::selector_of(words::number2(bytes[0], bytes[1])))
+    selected(list_deciding::erase::selector_of(words::number2(bytes[0], bytes[1])))
 }
 
 // The end of a special erase.
@@ -112,7 +112,7 @@ fn special_ends(usd: &[u8], address: u32, bytes: &[u8]) -> Decision
     command::accept_if(
         checksum::special_checks(address, bytes[0]),
         command::judged(
-            deciding::erase::erase_all_verdict(usd, address),
+            list_deciding::erase::erase_all_verdict(usd, address),
             command::alter(Reply::Ack, Change::EraseAll, Next::GoIdle),
         ),
         Why::BadChecksum,
@@ -127,7 +127,7 @@ fn erase_ends(usd: &[u8], expected: usize, bytes: &[u8]) -> Decision
     let x = (expected - 1) / 2;
     command::accept_if(
         checksum::checks_numbered(bytes, x),
-        deciding::erase::erase(usd, bytes, x),
+        list_deciding::erase::erase(usd, bytes, x),
         Why::BadChecksum,
     )
 }
@@ -140,7 +140,7 @@ fn protect_ends(expected: usize, bytes: &[u8]) -> Decision
     let x = expected - 1;
     command::accept_if(
         checksum::checks_counted(bytes, x),
-        deciding::protect::protect(bytes, x),
+        list_deciding::protect::protect(bytes, x),
         Why::BadChecksum,
     )
 }

@@ -13,8 +13,8 @@ use Rattle.board.specs.Quantities.{sector, isSector, numbered}
 use Rattle.board.specs.Usd.{writeProtected}
 use Rattle.board.specs.declared.Sector.{Sector}
 use Rattle.board.proofs.InOrder.{numbered-first}
-use Rattle.deciding.proofs.erase.any_numbered_protected.Statement.{statement}
-use Rattle.deciding.proofs.erase.any_numbered_protected.Tie as tie
+use Rattle.list_deciding.proofs.erase.any_numbered_protected.Statement.{statement}
+use Rattle.list_deciding.proofs.erase.any_numbered_protected.Tie as tie
 
 abbrev Inv-loop : tie.InvT-loop
 Inv-loop usd staged x end j₀ j = (j ≤ end) × (j % 2 ≡ 0) × T (all isSector (numbered (slice j end staged))) × (any (writeProtected usd) (numbered (slice j end staged)) ≡ any (writeProtected usd) (numbered (take end staged)))

@@ -5,8 +5,8 @@ use mathlib.Core.Path.{sym, _∙_, subst}
 use lib.Dec.{T}
 use borrow.Author.Tests.{not-true, not-false}
 use Rattle.rules.specs.Rules.{eraseVerdict}
-use Rattle.deciding.proofs.erase.erase_verdict.Statement.{statement}
-use Rattle.deciding.proofs.erase.erase_verdict.Tie as tie
+use Rattle.list_deciding.proofs.erase.erase_verdict.Statement.{statement}
+use Rattle.list_deciding.proofs.erase.erase_verdict.Tie as tie
 
 pub erase-verdict-spec : {M : Type 1} → statement M
 unfolding eraseVerdict

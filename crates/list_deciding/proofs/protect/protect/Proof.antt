@@ -3,8 +3,8 @@ use borrow.Author.Needs.{needs}
 use mathlib.Core.Path.{sym, _∙_}
 use Rattle.command.specs.Decision.{judged}
 use Rattle.rules.specs.Rules.{protectVerdict, protecting}
-use Rattle.deciding.proofs.protect.protect.Statement.{statement}
-use Rattle.deciding.proofs.protect.protect.Tie as tie
+use Rattle.list_deciding.proofs.protect.protect.Statement.{statement}
+use Rattle.list_deciding.proofs.protect.protect.Tie as tie
 
 pub protect-spec : {M : Type 1} → statement M
 unfolding protecting protectVerdict judged

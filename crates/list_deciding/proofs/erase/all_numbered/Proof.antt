@@ -9,8 +9,8 @@ use borrow.Author.Tests.{lt-ltb, le-ltb}
 use Rattle.words.specs.Lists.{all}
 use Rattle.board.specs.Quantities.{isSector, numbered}
 use Rattle.board.proofs.InOrder.{numbered-first}
-use Rattle.deciding.proofs.erase.all_numbered.Statement.{statement}
-use Rattle.deciding.proofs.erase.all_numbered.Tie as tie
+use Rattle.list_deciding.proofs.erase.all_numbered.Statement.{statement}
+use Rattle.list_deciding.proofs.erase.all_numbered.Tie as tie
 
 abbrev Inv-loop : tie.InvT-loop
 Inv-loop staged x end j₀ j = (j ≤ end) × (j % 2 ≡ 0) × (all isSector (numbered (slice j end staged)) ≡ all isSector (numbered (take end staged)))

@@ -1,8 +1,8 @@
 -- The verdict is the rule's.
 use borrow.Author.Needs.{needs}
 use Rattle.rules.specs.Rules.{erasing}
-use Rattle.deciding.proofs.erase.erase.Statement.{statement}
-use Rattle.deciding.proofs.erase.erase.Tie as tie
+use Rattle.list_deciding.proofs.erase.erase.Statement.{statement}
+use Rattle.list_deciding.proofs.erase.erase.Tie as tie
 
 pub erase-spec : {M : Type 1} → statement M
 unfolding erasing

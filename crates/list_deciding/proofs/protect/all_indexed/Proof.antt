@@ -9,8 +9,8 @@ use borrow.Author.Tests.{lt-ltb, le-ltb}
 use Rattle.words.specs.Lists.{all}
 use Rattle.board.specs.Quantities.{isSector, indexed}
 use Rattle.board.proofs.InOrder.{indexed-first}
-use Rattle.deciding.proofs.protect.all_indexed.Statement.{statement}
-use Rattle.deciding.proofs.protect.all_indexed.Tie as tie
+use Rattle.list_deciding.proofs.protect.all_indexed.Statement.{statement}
+use Rattle.list_deciding.proofs.protect.all_indexed.Tie as tie
 
 abbrev Inv-loop : tie.InvT-loop
 Inv-loop staged x i₀ i = (i ≤ x) × (all isSector (indexed (slice i x staged)) ≡ all isSector (indexed (take x staged)))

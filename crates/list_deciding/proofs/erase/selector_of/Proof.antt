@@ -1,8 +1,8 @@
 -- The tests are the rule's.
 use borrow.Author.Needs.{needs}
 use Rattle.rules.specs.Rules.{selectorOf}
-use Rattle.deciding.proofs.erase.selector_of.Statement.{statement}
-use Rattle.deciding.proofs.erase.selector_of.Tie as tie
+use Rattle.list_deciding.proofs.erase.selector_of.Statement.{statement}
+use Rattle.list_deciding.proofs.erase.selector_of.Tie as tie
 
 pub selector-of-spec : {M : Type 1} → statement M
 unfolding selectorOf

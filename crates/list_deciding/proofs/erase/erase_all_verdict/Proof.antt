@@ -2,8 +2,8 @@
 use borrow.Author.Needs.{needs}
 use mathlib.Core.Path.{sym, _∙_}
 use Rattle.rules.specs.Rules.{eraseAllVerdict}
-use Rattle.deciding.proofs.erase.erase_all_verdict.Statement.{statement}
-use Rattle.deciding.proofs.erase.erase_all_verdict.Tie as tie
+use Rattle.list_deciding.proofs.erase.erase_all_verdict.Statement.{statement}
+use Rattle.list_deciding.proofs.erase.erase_all_verdict.Tie as tie
 
 pub erase-all-verdict-spec : {M : Type 1} → statement M
 unfolding eraseAllVerdict
