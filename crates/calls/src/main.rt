@@ -1,37 +1,48 @@
 // Makes single calls that vectors describe, each on a session, memories and a reply buffer of its own, and prints what each left (docs/VECTORS.md).
-ghost use Prim.Native.Nat.{_≤_, _<_};
+ghost use Prim.Native.Nat.{_≤_};
 ghost use lib.ListN.{length};
-ghost use Rattle.calls.specs.Sizes.{replyRoom};
-
-mod report;
-mod vector;
-
+ghost use Rattle.vectors.specs.Sizes.{replyRoom};
+use boot::Taken;
 use libc::STDIN_FILENO;
 use lines::line;
-use vector::BYTES;
+use vectors::FIELDS;
+use vectors::report;
+use vectors::vector;
+use vectors::vector::BYTES;
+use vectors::wide;
 use words::FIELD;
-
-// How many bytes a short number takes, and a long one.
-const SHORT: usize = 4;
-
-const LONG: usize = 8;
-
-// Where the bytes begin in the line of a vector or of an answer.
-const FIELDS: usize = 1;
 
 // Where a vector's bytes end in its line, and how many characters that has with its LF.
 const FIELDS_END: usize = FIELDS + FIELD * BYTES;
 
 const LINE: usize = FIELDS_END + 1;
 
+// The most bytes of a frame's slice.
+const LONGEST_FRAME: usize = 12;
+
+// The letter of a vector whose call takes a byte.
+const TAKES_BYTE: u8 = b'B';
+
 // How many vectors are read at most, a number that no run uses up.
 const TURNS: u64 = 0x0008_0000_0000_0000;
 
-// A byte as a number, of which a caller thereby knows that it is below 256.
-fn wide(byte: u8) -> u64
-    ensures { λ r. ⌜ r < 256 ⌝ }
-{
-    byte as u64
+// Makes the call of a vector, whose letter says which.
+fn call(
+    vector: &[u8; BYTES],
+    letter: u8,
+    flash: &mut [u8],
+    sram: &mut [u8],
+    usd: &mut [u8],
+    buffer: &mut [u8],
+) -> Taken {
+    let before = vector::session(vector);
+    if letter == TAKES_BYTE {
+        return before.take_byte(vector[vector::BYTE], flash, sram, usd, buffer);
+    }
+    let end = vector::FRAME
+        + words::least(wide(vector[vector::FRAME_LENGTH]) as usize, LONGEST_FRAME);
+    let bytes = &vector[..];
+    before.take_frame(&bytes[vector::FRAME..end], flash, sram, usd, buffer)
 }
 
 // Makes the call of a vector on what is lent, prints what it left, and tells whether it could.
@@ -46,7 +57,7 @@ fn answer_on(
     requires { ⌜ length (now buffer) ≤ replyRoom ⌝ }
 {
     vector::fill_lent(vector, flash, sram, usd, buffer);
-    let taken = vector::call(vector, letter, flash, sram, usd, buffer);
+    let taken = call(vector, letter, flash, sram, usd, buffer);
     report::report(taken, flash, sram, usd, buffer)
 }
 

@@ -2,7 +2,7 @@
 use borrow.Author.Needs.{needs}
 use mathlib.Core.Path.{subst, sym, _∙_}
 use Prim.Native.Nat.{ℕ, _≤_}
-use Rattle.calls.specs.Sizes.{replyRoom}
+use Rattle.vectors.specs.Sizes.{replyRoom}
 use Rattle.calls.proofs.answer_on.Statement.{statement}
 use Rattle.calls.proofs.answer_on.Tie as tie
 

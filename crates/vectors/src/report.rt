@@ -2,7 +2,7 @@ ghost use mathlib.Core.Path.{_≡_};
 ghost use Prim.Native.Nat.{_+_, _*_, _≤_};
 ghost use lib.ListN.{length};
 ghost use Rattle.words.specs.Hex.{fieldCharacters};
-ghost use Rattle.calls.specs.Sizes.{longBytes, sessionBytes, lentBytes, replyRoom, lineRoom};
+ghost use Rattle.vectors.specs.Sizes.{longBytes, sessionBytes, lentBytes, replyRoom, lineRoom};
 use crate::FIELDS;
 use crate::LONG;
 use crate::SHORT;

@@ -3,8 +3,8 @@ use borrow.Author.Needs.{needs}
 use native.Mathlib.Omega.{arith}
 use Prim.Native.Nat.{_≤_, _<_, _-_}
 use lib.ListN.{length}
-use Rattle.calls.proofs.report.digest.Statement.{statement}
-use Rattle.calls.proofs.report.digest.Tie as tie
+use Rattle.vectors.proofs.report.digest.Statement.{statement}
+use Rattle.vectors.proofs.report.digest.Tie as tie
 
 abbrev Inv-loop : tie.InvT-loop
 Inv-loop bytes low₀ high₀ i₀ i-end low high i = (i ≤ length bytes) × (low < 65521) × (high < 65521)

@@ -1,10 +1,9 @@
 ghost use Prim.Native.Nat.{_+_, _≤_};
 ghost use Rattle.io.specs.Counts.{Counts};
-ghost use Rattle.calls.specs.Sizes.{vectorBytes, shortBytes, longBytes};
+ghost use Rattle.vectors.specs.Sizes.{vectorBytes, shortBytes, longBytes};
 use crate::SHORT;
 use crate::wide;
 use boot::Session;
-use boot::Taken;
 use constants::Board;
 
 // How many bytes a vector has, and where its parts stand.
@@ -38,11 +37,11 @@ const SECTORS: usize = 60;
 
 pub const BUFFER: usize = 64;
 
-const BYTE: usize = 69;
+pub const BYTE: usize = 69;
 
-const FRAME_LENGTH: usize = 70;
+pub const FRAME_LENGTH: usize = 70;
 
-const FRAME: usize = 71;
+pub const FRAME: usize = 71;
 
 // How many bits a short number has.
 const SHORT_BITS: u64 = 32;
@@ -58,12 +57,6 @@ const SECTORS_GIVEN: usize = 4;
 const SEED: usize = SHORT;
 
 const STRIDE: usize = SEED + 1;
-
-// The most bytes of a frame's slice.
-const LONGEST_FRAME: usize = 12;
-
-// The letter of a vector whose call takes a byte.
-const TAKES_BYTE: u8 = b'B';
 
 // The short number that stands at a place of a vector, high first.
 fn short_number(vector: &[u8; BYTES], at: usize) -> u32
@@ -130,7 +123,7 @@ pub fn fill_lent(
 }
 
 // The session that a vector says.
-fn session(vector: &[u8; BYTES]) -> Session {
+pub fn session(vector: &[u8; BYTES]) -> Session {
     let mut staged = [0u8; memories::STAGED];
     fill(&mut staged, vector[STAGED], vector[STAGED + 1]);
     words::copy(&mut staged, 0, vector, STAGED_FRONT, STAGED_GIVEN);
@@ -143,22 +136,4 @@ fn session(vector: &[u8; BYTES]) -> Session {
         speed: vector[SPEED],
         staged: staged,
     }
-}
-
-// Makes the call of a vector, whose letter says which.
-pub fn call(
-    vector: &[u8; BYTES],
-    letter: u8,
-    flash: &mut [u8],
-    sram: &mut [u8],
-    usd: &mut [u8],
-    buffer: &mut [u8],
-) -> Taken {
-    let before = session(vector);
-    if letter == TAKES_BYTE {
-        return before.take_byte(vector[BYTE], flash, sram, usd, buffer);
-    }
-    let end = FRAME + words::least(wide(vector[FRAME_LENGTH]) as usize, LONGEST_FRAME);
-    let bytes = &vector[..];
-    before.take_frame(&bytes[FRAME..end], flash, sram, usd, buffer)
 }

@@ -2,8 +2,8 @@
 use borrow.Author.Needs.{needs}
 use native.Mathlib.Omega.{arith}
 use Rattle.io.proofs.Counting.{counts}
-use Rattle.calls.proofs.vector.extent.Statement.{statement}
-use Rattle.calls.proofs.vector.extent.Tie as tie
+use Rattle.vectors.proofs.vector.extent.Statement.{statement}
+use Rattle.vectors.proofs.vector.extent.Tie as tie
 
 pub extent-spec : {M : Type 1} → statement M
 extent-spec =

@@ -2,8 +2,8 @@
 use borrow.Author.Needs.{needs}
 use native.Mathlib.Omega.{arith}
 use Rattle.io.proofs.Counting.{front}
-use Rattle.calls.proofs.report.write.Statement.{statement}
-use Rattle.calls.proofs.report.write.Tie as tie
+use Rattle.vectors.proofs.report.write.Statement.{statement}
+use Rattle.vectors.proofs.report.write.Tie as tie
 
 pub write-spec : {M : Type 1} → statement M
 write-spec =

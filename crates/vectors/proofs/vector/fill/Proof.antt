@@ -4,8 +4,8 @@ use native.Mathlib.Omega.{arith}
 use mathlib.Core.Path.{_≡_}
 use Prim.Native.Nat.{_≤_, _-_}
 use lib.ListN.{length, length-set}
-use Rattle.calls.proofs.vector.fill.Statement.{statement}
-use Rattle.calls.proofs.vector.fill.Tie as tie
+use Rattle.vectors.proofs.vector.fill.Statement.{statement}
+use Rattle.vectors.proofs.vector.fill.Tie as tie
 
 abbrev Inv-loop : tie.InvT-loop
 Inv-loop memory₀ seed stride value₀ i₀ i-end memory value i = (i ≤ length memory₀) × (length memory ≡ length memory₀)

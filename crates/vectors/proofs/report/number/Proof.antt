@@ -3,8 +3,8 @@ use native.Mathlib.Omega.{arith}
 use mathlib.Core.Path.{_≡_, refl}
 use Prim.Native.Nat.{_≤_}
 use lib.ListN.{length, length-set}
-use Rattle.calls.proofs.report.number.Statement.{statement}
-use Rattle.calls.proofs.report.number.Tie as tie
+use Rattle.vectors.proofs.report.number.Statement.{statement}
+use Rattle.vectors.proofs.report.number.Tie as tie
 
 abbrev Inv-loop : tie.InvT-loop
 Inv-loop n width out at told₀ rest₀ left₀ told rest left = (left ≤ width) × (length told ≡ 8)
