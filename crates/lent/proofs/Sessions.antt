@@ -12,7 +12,8 @@ use Rattle.words.specs.Bytes.{number, fourBytes}
 use Rattle.words.specs.Over.{put}
 use Rattle.words.proofs.Over.{put-one, put-then, put-all}
 use Rattle.boot.specs.declared.Session.{Session}
-use Rattle.lent.specs.Sessions.{sessionLength, eightBytes, sessionBytes, heldIn, noSession, sessionIn}
+use Rattle.numbers.specs.Numbers.{eightBytes}
+use Rattle.lent.specs.Sessions.{sessionLength, sessionBytes, heldIn, noSession, sessionIn}
 
 -- the stores of a session's parts, one behind the other, make its bytes
 pub all-stored : (l : List ℕ) (s : Session) → length l ≡ sessionLength → length (s .staged) ≡ 257

@@ -5,9 +5,9 @@ use mathlib.Core.List.{List, [], _∷_, _++_}
 use lib.Dec.{eqb}
 use lib.ListN.{length, getD}
 use Rattle.words.specs.Choice.{if_then_else_}
-use Rattle.words.specs.Bytes.{number, byteOf, fourBytes}
+use Rattle.words.specs.Bytes.{number, fourBytes}
 use Rattle.words.specs.Lists.{part}
-use Rattle.board.specs.Quantities.{addressBytes}
+use Rattle.numbers.specs.Numbers.{shortBytes, longBytes, eightBytes}
 use Rattle.memories.specs.Effects.{stagedBytes}
 use Rattle.boot.specs.Session.{noBytes}
 use Rattle.carriers.specs.Carriers.{carrierNo}
@@ -17,10 +17,6 @@ use Rattle.boot.specs.declared.Session.{Session}
 -- how many bytes a session is lent in
 abbrev pub sessionLength : ℕ
 sessionLength = 280
-
--- how many bytes taken and expected have
-abbrev pub countBytes : ℕ
-countBytes = 8
 
 -- where each number stands, and where the staged bytes begin
 abbrev pub carrierPlace : ℕ
@@ -44,11 +40,6 @@ speedPlace = 22
 abbrev pub stagedPlace : ℕ
 stagedPlace = 23
 
--- a number's eight bytes, high first
-abbrev pub eightBytes : ℕ → List ℕ
-eightBytes n =
-    byteOf n 7 ∷ byteOf n 6 ∷ byteOf n 5 ∷ byteOf n 4 ∷ byteOf n 3 ∷ byteOf n 2 ∷ byteOf n 1 ∷ byteOf n 0 ∷ []
-
 -- the bytes of a session
 unfoldable pub sessionBytes : Session → List ℕ
 sessionBytes s =
@@ -64,9 +55,9 @@ unfoldable pub heldIn : List ℕ → Session
 heldIn l = record {
   carrier = getD l carrierPlace 0;
   step = getD l stepPlace 0;
-  taken = number (part takenPlace countBytes l);
-  expected = number (part expectedPlace countBytes l);
-  address = number (part addressPlace addressBytes l);
+  taken = number (part takenPlace longBytes l);
+  expected = number (part expectedPlace longBytes l);
+  address = number (part addressPlace shortBytes l);
   speed = getD l speedPlace 0;
   staged = part stagedPlace stagedBytes l;
 }

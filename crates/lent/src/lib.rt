@@ -1,15 +1,11 @@
 // A session as the bytes that it is lent in: reads it, writes it, and hands it on after a call.
 ghost use mathlib.Core.Path.{_≡_};
-ghost use Prim.Native.Nat.{_+_, _≤_};
 ghost use lib.ListN.{length};
-ghost use Rattle.words.specs.Bytes.{number, fourBytes};
 ghost use Rattle.words.specs.Lists.{part};
-ghost use Rattle.words.specs.Over.{put};
-ghost use Rattle.board.specs.Quantities.{addressBytes};
 ghost use Rattle.memories.specs.Effects.{stagedBytes};
 ghost use Rattle.boot.specs.Causes.{causeNo};
 ghost use Rattle.boot.specs.declared.Cause.the-variants.{Accepted};
-ghost use Rattle.lent.specs.Sessions.{sessionLength, countBytes, stagedPlace, eightBytes, sessionBytes, heldIn, noSession, sessionIn};
+ghost use Rattle.lent.specs.Sessions.{sessionLength, stagedPlace, sessionBytes, heldIn, noSession, sessionIn};
 ghost use Rattle.lent.specs.Promise.{HandsOn};
 use boot::Session;
 use boot::Taken;
@@ -22,11 +18,6 @@ pub const UNSOUND_SESSION: u8 = 4;
 
 // How many bytes a session is lent in.
 pub const LENGTH: usize = 280;
-
-// How many bytes an address has, and how many taken and expected have.
-const ADDRESS_BYTES: usize = 4;
-
-const COUNT_BYTES: usize = 8;
 
 // Where each number stands, and where the staged bytes begin.
 const CARRIER: usize = 0;
@@ -46,22 +37,6 @@ const STAGED: usize = 23;
 // A number that is no carrier's.
 const NO_CARRIER: u8 = 4;
 
-// The number that four bytes write from a place on.
-fn address_at(lent: &[u8], at: usize) -> u32
-    requires { ⌜ at + addressBytes ≤ length (now lent) ⌝ }
-    ensures { λ r. ⌜ r ≡ number (part at addressBytes (now (lent .entry))) ⌝ }
-{
-    words::number4(lent[at], lent[at + 1], lent[at + 2], lent[at + 3])
-}
-
-// The number that eight bytes write from a place on.
-fn count_at(lent: &[u8], at: usize) -> usize
-    requires { ⌜ at + countBytes ≤ length (now lent) ⌝ }
-    ensures { λ r. ⌜ r ≡ number (part at countBytes (now (lent .entry))) ⌝ }
-{
-    (address_at(lent, at) as usize) * 4294967296 + address_at(lent, at + ADDRESS_BYTES) as usize
-}
-
 // The staged bytes.
 fn staged_in(lent: &[u8]) -> [u8; memories::STAGED]
     requires { ⌜ length (now lent) ≡ sessionLength ⌝ }
@@ -80,9 +55,9 @@ fn held_in(lent: &[u8]) -> Session
     Session {
         carrier: lent[CARRIER],
         step: lent[STEP],
-        taken: count_at(lent, TAKEN),
-        expected: count_at(lent, EXPECTED),
-        address: address_at(lent, ADDRESS),
+        taken: numbers::long_at(lent, TAKEN),
+        expected: numbers::long_at(lent, EXPECTED),
+        address: numbers::short_at(lent, ADDRESS),
         speed: lent[SPEED],
         staged: staged_in(lent),
     }
@@ -114,38 +89,6 @@ pub fn read(lent: &[u8]) -> Session
     }
 }
 
-// Puts a number's four bytes from a place on, which write it.
-fn put_address(lent: &mut [u8], at: usize, address: u32)
-    requires { ⌜ at + addressBytes ≤ length (now lent) ⌝ }
-    ensures { λ _. ⌜ (now (lent .exit) ≡ put (now (lent .entry)) at (fourBytes address)) × (number (fourBytes address) ≡ address) ⌝ }
-{
-    let bytes = [
-        (address / 16777216 % 256) as u8,
-        (address / 65536 % 256) as u8,
-        (address / 256 % 256) as u8,
-        (address % 256) as u8,
-    ];
-    words::copy(lent, at, &bytes, 0, ADDRESS_BYTES);
-}
-
-// Puts a number's eight bytes from a place on, which write it.
-fn put_count(lent: &mut [u8], at: usize, count: usize)
-    requires { ⌜ at + countBytes ≤ length (now lent) ⌝ }
-    ensures { λ _. ⌜ (now (lent .exit) ≡ put (now (lent .entry)) at (eightBytes count)) × (number (eightBytes count) ≡ count) ⌝ }
-{
-    let bytes = [
-        (count / 72057594037927936 % 256) as u8,
-        (count / 281474976710656 % 256) as u8,
-        (count / 1099511627776 % 256) as u8,
-        (count / 4294967296 % 256) as u8,
-        (count / 16777216 % 256) as u8,
-        (count / 65536 % 256) as u8,
-        (count / 256 % 256) as u8,
-        (count % 256) as u8,
-    ];
-    words::copy(lent, at, &bytes, 0, COUNT_BYTES);
-}
-
 // Writes the bytes of a session, which are read as that session.
 pub fn write(session: Session, lent: &mut [u8])
     requires { ⌜ length (now lent) ≡ sessionLength ⌝ }
@@ -153,9 +96,9 @@ pub fn write(session: Session, lent: &mut [u8])
 {
     lent[CARRIER] = session.carrier;
     lent[STEP] = session.step;
-    put_count(lent, TAKEN, session.taken);
-    put_count(lent, EXPECTED, session.expected);
-    put_address(lent, ADDRESS, session.address);
+    numbers::put_long(lent, TAKEN, session.taken);
+    numbers::put_long(lent, EXPECTED, session.expected);
+    numbers::put_short(lent, ADDRESS, session.address);
     lent[SPEED] = session.speed;
     words::copy(lent, STAGED, &session.staged, 0, memories::STAGED);
 }

@@ -39,7 +39,7 @@ const VERSION_LENGTH: usize = 5;
 
 const DEVICE_LENGTH: usize = 8;
 
-const SUM_LENGTH: usize = 5;
+const SUM_LENGTH: usize = 1 + numbers::SHORT;
 
 // The bytes of the longest fixed reply, that to 0x00 on CAN.
 pub const LONGEST: usize = 18;
@@ -132,14 +132,8 @@ fn say_crc(value: u32, buffer: &mut [u8]) -> usize
     requires { ⌜ replyRoom ≤ length (now buffer) ⌝ }
     ensures { λ r. ⌜ (r ≡ length (ackByte ∷ fourBytes value)) × (now (buffer .exit) ≡ put (now (buffer .entry)) 0 (ackByte ∷ fourBytes value)) ⌝ }
 {
-    let told = [
-        ACK,
-        (value / 16777216 % 256) as u8,
-        (value / 65536 % 256) as u8,
-        (value / 256 % 256) as u8,
-        (value % 256) as u8,
-    ];
-    words::copy(buffer, 0, &told, 0, SUM_LENGTH);
+    buffer[0] = ACK;
+    numbers::put_short(buffer, 1, value);
     SUM_LENGTH
 }
 

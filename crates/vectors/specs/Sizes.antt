@@ -1,16 +1,10 @@
 -- How much of each thing there is: docs/VECTORS.md. Assumes nothing.
 use Prim.Native.Nat.{ℕ, _+_, _*_}
+use Rattle.numbers.specs.Numbers.{shortBytes, longBytes}
 
 -- the bytes of a vector
 abbrev pub vectorBytes : ℕ
 vectorBytes = 83
-
--- the bytes of a short number and of a long one
-abbrev pub shortBytes : ℕ
-shortBytes = 4
-
-abbrev pub longBytes : ℕ
-longBytes = 8
 
 -- the bytes of an answer that say the next session: three of one byte, two long numbers, two short ones
 abbrev pub sessionBytes : ℕ

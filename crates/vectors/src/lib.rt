@@ -4,11 +4,6 @@ pub mod vector;
 
 ghost use Prim.Native.Nat.{_<_};
 
-// How many bytes a short number takes, and a long one.
-const SHORT: usize = 4;
-
-const LONG: usize = 8;
-
 // Where the bytes begin in the line of a vector or of an answer.
 pub const FIELDS: usize = 1;
 

@@ -2,14 +2,15 @@ ghost use mathlib.Core.Path.{_≡_};
 ghost use Prim.Native.Nat.{_+_, _*_, _≤_};
 ghost use lib.ListN.{length};
 ghost use Rattle.words.specs.Hex.{fieldCharacters};
-ghost use Rattle.vectors.specs.Sizes.{longBytes, sessionBytes, lentBytes, replyRoom, lineRoom};
+ghost use Rattle.numbers.specs.Numbers.{longBytes};
+ghost use Rattle.vectors.specs.Sizes.{sessionBytes, lentBytes, replyRoom, lineRoom};
 use crate::FIELDS;
-use crate::LONG;
-use crate::SHORT;
 use crate::wide;
 use boot::Session;
 use boot::Taken;
 use libc::STDOUT_FILENO;
+use numbers::LONG;
+use numbers::SHORT;
 use written::first::LINE_FEED;
 
 // The modulus of a digest's two sums, and how many bits each takes.

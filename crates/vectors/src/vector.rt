@@ -1,10 +1,10 @@
 ghost use Prim.Native.Nat.{_+_, _≤_};
 ghost use Rattle.io.specs.Counts.{Counts};
-ghost use Rattle.vectors.specs.Sizes.{vectorBytes, shortBytes, longBytes};
-use crate::SHORT;
-use crate::wide;
+ghost use Rattle.numbers.specs.Numbers.{shortBytes};
+ghost use Rattle.vectors.specs.Sizes.{vectorBytes};
 use boot::Session;
 use constants::Board;
+use numbers::SHORT;
 
 // How many bytes a vector has, and where its parts stand.
 pub const BYTES: usize = 83;
@@ -43,9 +43,6 @@ pub const FRAME_LENGTH: usize = 70;
 
 pub const FRAME: usize = 71;
 
-// How many bits a short number has.
-const SHORT_BITS: u64 = 32;
-
 // How many bytes of each part a vector says one by one.
 const STAGED_GIVEN: usize = 16;
 
@@ -58,28 +55,12 @@ const SEED: usize = SHORT;
 
 const STRIDE: usize = SEED + 1;
 
-// The short number that stands at a place of a vector, high first.
-fn short_number(vector: &[u8; BYTES], at: usize) -> u32
-    requires { ⌜ at + shortBytes ≤ vectorBytes ⌝ }
-{
-    words::number4(vector[at], vector[at + 1], vector[at + 2], vector[at + 3])
-}
-
-// The long number that stands at a place of a vector, high first.
-fn long_number(vector: &[u8; BYTES], at: usize) -> u64
-    requires { ⌜ at + longBytes ≤ vectorBytes ⌝ }
-{
-    let high = short_number(vector, at) as u64;
-    let low = short_number(vector, at + SHORT) as u64;
-    (high << SHORT_BITS) | low
-}
-
 // How many bytes a memory is to have, which a vector says at a place, and no more than there is room for.
 pub fn extent(vector: &[u8; BYTES], at: usize, room: &[u8]) -> usize
     requires { ⌜ at + shortBytes ≤ vectorBytes ⌝ }
     ensures { λ r. ⌜ Counts r (now (room .entry)) ⌝ }
 {
-    words::least(short_number(vector, at) as usize, room.len())
+    words::least(numbers::short_at(vector, at) as usize, room.len())
 }
 
 // Fills a memory by a seed and a stride from each byte to the next.
@@ -130,9 +111,9 @@ pub fn session(vector: &[u8; BYTES]) -> Session {
     Session {
         carrier: vector[CARRIER],
         step: vector[STEP],
-        taken: long_number(vector, TAKEN) as usize,
-        expected: long_number(vector, EXPECTED) as usize,
-        address: short_number(vector, ADDRESS),
+        taken: numbers::long_at(vector, TAKEN),
+        expected: numbers::long_at(vector, EXPECTED),
+        address: numbers::short_at(vector, ADDRESS),
         speed: vector[SPEED],
         staged: staged,
     }

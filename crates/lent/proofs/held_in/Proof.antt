@@ -16,4 +16,4 @@ held-in-spec =
     (λ c κs. search needs)
     (λ c. search needs)
     (λ c κs. search needs)
-    (λ c. rw (← (c .before .before .before .before .count-at .ensures), ← (c .before .before .before .count-at2 .ensures), ← (c .before .before .address-at .ensures), ← (c .staged-in .ensures))))
+    (λ c. rw (← (c .before .before .before .before .long-at .ensures), ← (c .before .before .before .long-at2 .ensures), ← (c .before .before .short-at .ensures), ← (c .staged-in .ensures))))

@@ -1,8 +1,14 @@
--- The bytes are the number's four, high first.
+-- ACK, and behind it the number's four bytes, high first.
 use borrow.Author.Needs.{needs}
 use native.Mathlib.Omega.{arith}
-use mathlib.Core.Path.{_≡_, refl}
-use Prim.Native.Nat.{_/_, _%_}
+use mathlib.Core.Path.{refl, sym, ap, _∙_}
+use mathlib.Core.List.{List, [], _∷_}
+use Prim.Native.Nat.{ℕ}
+use lib.ListN.{length-set}
+use Rattle.words.specs.Bytes.{fourBytes}
+use Rattle.words.specs.Over.{put}
+use Rattle.words.proofs.Over.{put-one, put-then}
+use Rattle.command.specs.Says.{ackByte}
 use Rattle.reply.proofs.say_crc.Statement.{statement}
 use Rattle.reply.proofs.say_crc.Tie as tie
 
@@ -11,10 +17,6 @@ say-crc-spec =
     tie.close
     (tie.spec
     (λ c. search needs)
-    (λ c. search needs)
-    (λ c. search needs)
-    (λ c. search needs)
-    (λ c. search needs)
-    (λ c κs. search needs)
-    (λ c. search needs)
-    (λ c. (refl, let e : c .before .before .before .before .before .before .args .value / 1 % 256 ≡ c .before .before .before .before .before .before .args .value % 256 = omega arith in rw e (c .before .before .copy .ensures))))
+    (λ c κs. simp length-set (omega arith))
+    (λ c. (c .before .before .put-short .kept .0) ∙ length-set (c .before .before .before .before .before .args .buffer .now) 0 ackByte)
+    (λ c. let b = (c .before .before .before .before .before .args .buffer .now) in let four = fourBytes (c .before .before .before .before .before .args .value) in (refl, (c .before .before .put-short .ensures .0) ∙ ap (λ (m : List ℕ). put m 1 four) (sym (put-one b 0 ackByte)) ∙ put-then b 0 1 (ackByte ∷ []) four refl)))

@@ -12,4 +12,4 @@ extent-spec =
     (λ c κs. search needs)
     (λ c. search needs)
     (λ c κs. search needs)
-    (λ c. counts ((c .least .result)) ((c .before .before .before .args .room .now)) (omega arith)))
+    (λ c. counts (c .least .result) (c .before .before .before .before .args .room .now) (omega arith)))

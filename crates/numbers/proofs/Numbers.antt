@@ -1,16 +1,17 @@
 -- Bytes one behind the other write a number together, and a number is what its bytes write.
 use mathlib.Core.Path.{_≡_, refl, sym, ap, _∙_}
 use mathlib.Core.List.{List, [], _∷_, _++_}
-use Prim.Native.Nat.{ℕ, zero, suc, _+_, _*_, _^_, _%_, _≤_, _<_}
+use Prim.Native.Nat.{ℕ, zero, suc, _+_, _*_, _^_, _/_, _%_, _≤_, _<_}
 use native.Mathlib.Nat.{add-zero, add-mul, add-assoc, mul-assoc, mod-eq-of-lt, one-le-pow, pow-succ'}
 use native.Mathlib.Omega.{arith}
 use lib.Arith.{mod-mul}
 use lib.Pow.{pow-add}
 use lib.ListN.{length, getD, take, drop, length-append, length-drop}
 use lib.Seq.{take-add, drop-drop, getD-drop}
-use Rattle.words.specs.Bytes.{number, byteOf}
+use Rattle.words.specs.Bytes.{number, byteOf, fourBytes}
 use Rattle.words.specs.Lists.{part}
 use Rattle.words.proofs.Slices.{take-four, length-part}
+use Rattle.numbers.specs.Numbers.{eightBytes}
 
 -- bytes behind others are the low ones
 pub number-append : (a b : List ℕ) → number (a ++ b) ≡ number a * 256 ^ length b + number b
@@ -35,6 +36,21 @@ four-at l at h =
 -- the low byte of a number
 pub low-byte : (n : ℕ) → byteOf n 0 ≡ n % 256
 low-byte n = omega arith
+
+-- the bytes of a long number are those of its high half and of its low half
+pub halves : (n : ℕ) → fourBytes (n / 4294967296) ++ fourBytes (n % 4294967296) ≡ eightBytes n
+halves n =
+    let h = n / 4294967296 in
+    let l = n % 4294967296 in
+    let b7 : byteOf h 3 ≡ byteOf n 7 = omega arith in
+    let b6 : byteOf h 2 ≡ byteOf n 6 = omega arith in
+    let b5 : byteOf h 1 ≡ byteOf n 5 = omega arith in
+    let b4 : byteOf h 0 ≡ byteOf n 4 = omega arith in
+    let b3 : byteOf l 3 ≡ byteOf n 3 = omega arith in
+    let b2 : byteOf l 2 ≡ byteOf n 2 = omega arith in
+    let b1 : byteOf l 1 ≡ byteOf n 1 = omega arith in
+    let b0 : byteOf l 0 ≡ byteOf n 0 = omega arith in
+    rw (b7, b6, b5, b4, b3, b2, b1, b0)
 
 -- so many low bytes of a number, high first
 abbrev lowBytes : ℕ → ℕ → List ℕ
