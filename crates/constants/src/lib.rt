@@ -35,6 +35,7 @@ pub struct Identity {
 pub struct Board;
 
 impl Board {
+    // The flash: its first address, its sectors and the bytes of each, and its bytes.
     pub const FLASH_FIRST: u32 = 0x0800_0000;
 
     pub const SECTORS: usize = 32;
@@ -43,20 +44,25 @@ impl Board {
 
     pub const FLASH_BYTES: usize = Board::SECTORS * Board::SECTOR_BYTES;
 
+    // The SRAM: its first address and its bytes.
     pub const SRAM_FIRST: u32 = 0x2000_0000;
 
     pub const SRAM_BYTES: usize = 8192;
 
+    // User system data: its first address and its bytes.
     pub const USD_FIRST: u32 = 0x1FFF_F800;
 
     pub const USD_BYTES: usize = 64;
 
+    // Which byte of user system data is the protection, and its value for protection off.
     pub const PROTECTION: usize = 0;
 
     pub const PROTECTION_OFF: u8 = 0xA5;
 
+    // The first of the bytes of user system data that hold one bit per sector.
     pub const SECTOR_BITS: usize = 8;
 
+    // Protocol version, BID bytes, product ID and project ID.
     pub const VERSION: u8 = 0x20;
 
     pub const BID_FIRST: u8 = 0x01;
