@@ -1,4 +1,4 @@
--- A sound session is held by a slice of its length, and what power on writes is read as a fresh session.
+-- Which slices hold a sound session.
 use mathlib.Core.Path.{_≡_, refl, sym, subst}
 use mathlib.Core.Bool.{Bool, true, false}
 use mathlib.Core.List.{List}
@@ -6,9 +6,8 @@ use Prim.Native.Nat.{ℕ}
 use lib.Dec.{T, eqb→eq}
 use lib.ListN.{length}
 use Rattle.words.specs.Choice.{if_then_else_}
-use Rattle.boot.specs.Session.{fresh, sound}
-use Rattle.lent.specs.Sessions.{sessionLength, sessionBytes, holdsSession, heldIn, noSession, sessionIn}
-use Rattle.lent.proofs.Sessions.{read-back}
+use Rattle.boot.specs.Session.{sound}
+use Rattle.lent.specs.Sessions.{sessionLength, holdsSession, heldIn, noSession, sessionIn}
 
 -- a sound session is held by a slice of its length
 pub sound-length : (l : List ℕ) → T (sound (sessionIn l)) → length l ≡ sessionLength
@@ -18,7 +17,3 @@ sound-length l t = by-test (holdsSession l) refl t
     by-test : (b : Bool) → holdsSession l ≡ b → T (sound (if b then heldIn l else noSession)) → length l ≡ sessionLength
     by-test true e t = eqb→eq (length l) 280 (subst T (sym e) tt)
     by-test false e t = absurd t
-
--- what power on writes is read as a fresh session
-pub fresh-read-back : sessionIn (sessionBytes fresh) ≡ fresh
-fresh-read-back = read-back fresh refl refl refl refl
