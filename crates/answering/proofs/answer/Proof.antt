@@ -8,8 +8,34 @@ use Rattle.answers.proofs.Telling.{obeyed-by}
 use Rattle.answering.proofs.answer.Statement.{statement}
 use Rattle.answering.proofs.answer.Tie as tie
 
-pub answer-spec : {M : Type 1} → statement M
+returns : tie.Need-returns
 unfolding answer answerBy
+returns c =
+    let after-disobey = c .before .before in
+    let after-enum-told = after-disobey .before .before in
+    let after-kind = after-enum-told .before .before in (
+      rw (← after-kind .kind .ensures, after-enum-told .enum-told .given .1)
+          (record { end = (after-disobey .disobey .ensures .0); text = (after-disobey .disobey .ensures .2); state = refl }),
+      omega (arith, after-disobey .disobey .ensures .1),
+    )
+
+returns-2 : tie.Need-returns-2
+unfolding answer answerBy
+returns-2 c =
+    let after-obey = c .before .before .before .before .before .before .before .before in
+    let at-match-keys2 = after-obey .before .before .before .before .before in
+    let after-kind = at-match-keys2 .before in
+    let start = after-kind .before .before .before .before .before .before in (
+      rw (
+        ← after-kind .kind .ensures,
+        obeyed-by (after-kind .kind .result) (start .args .number) (start .args .line .now)
+            (stateOf (start .args .session) (start .args .flash .now) (start .args .sram .now) (start .args .usd .now))
+            (at-match-keys2 .match .keys2),
+      ) (after-obey .obey .ensures .0),
+      after-obey .obey .ensures .1,
+    )
+
+pub answer-spec : {M : Type 1} → statement M
 answer-spec =
     tie.close
     (tie.spec
@@ -18,9 +44,9 @@ answer-spec =
     (λ c κs. search needs)
     (λ c κs. search needs)
     (λ c. search needs)
-    (λ c. (rw (← (c .before .before .before .before .before .before .kind .ensures), (c .before .before .before .before .enum-told .given .1)) (record { end = (c .before .before .disobey .ensures .0); text = (c .before .before .disobey .ensures .2); state = refl }), omega (arith, (c .before .before .disobey .ensures .1))))
+    returns
     (λ c. search needs)
     (λ c. search needs)
     (λ c. search needs)
     (λ c. search needs)
-    (λ c. (rw (← (c .before .before .before .before .before .before .before .before .before .before .before .before .before .before .kind .ensures), obeyed-by (c .before .before .before .before .before .before .before .before .before .before .before .before .before .before .kind .result) (c .before .before .before .before .before .before .before .before .before .before .before .before .before .before .before .before .before .before .before .before .args .number) (c .before .before .before .before .before .before .before .before .before .before .before .before .before .before .before .before .before .before .before .before .args .line .now) (stateOf (c .before .before .before .before .before .before .before .before .before .before .before .before .before .before .before .before .before .before .before .before .args .session) (c .before .before .before .before .before .before .before .before .before .before .before .before .before .before .before .before .before .before .before .before .args .flash .now) (c .before .before .before .before .before .before .before .before .before .before .before .before .before .before .before .before .before .before .before .before .args .sram .now) (c .before .before .before .before .before .before .before .before .before .before .before .before .before .before .before .before .before .before .before .before .args .usd .now)) (c .before .before .before .before .before .before .before .before .before .before .before .before .before .match .keys2)) (c .before .before .before .before .before .before .before .before .obey .ensures .0), (c .before .before .before .before .before .before .before .before .obey .ensures .1))))
+    returns-2)

@@ -7,6 +7,26 @@ use Rattle.answers.proofs.Telling.{length-notice, noticed}
 use Rattle.answering.proofs.disobey.Statement.{statement}
 use Rattle.answering.proofs.disobey.Tie as tie
 
+same-length : tie.Need-same-length
+same-length c =
+    let after-number = c .before .before in
+    let after-copy = after-number .before .before .before .before in
+    length-set (after-number .number .last .1 .0) (after-number .number .result) 10 ∙ after-number .number .kept .1 .0 ∙
+    after-copy .copy .kept .0
+
+returns : tie.Need-returns
+returns c =
+    let after-number = c .before .before in
+    let after-copy = after-number .before .before .before .before in
+    let start = after-copy .before .before .before .before in
+    let l = length-notice (start .args .number) in (
+      omega (arith, l, after-number .number .ensures .0),
+      omega (arith, after-number .number .ensures .1),
+      noticed (start .args .number) (start .args .at) (after-number .number .result) (start .args .out .now)
+          (after-number .number .last .1 .0) (after-number .number .ensures .0)
+          (rw (after-copy .copy .ensures) at (after-number .number .ensures .2)),
+    )
+
 pub disobey-spec : {M : Type 1} → statement M
 disobey-spec =
     tie.close
@@ -17,5 +37,5 @@ disobey-spec =
     (λ c κs. search needs)
     (λ c. search needs)
     (λ c. search needs)
-    (λ c. length-set (c .before .before .number .last .1 .0) (c .before .before .number .result) 10 ∙ (c .before .before .number .kept .1 .0) ∙ (c .before .before .before .before .before .before .copy .kept .0))
-    (λ c. let l = length-notice (c .before .before .before .before .before .before .before .before .before .before .args .number) in (omega (arith, l, (c .before .before .number .ensures .0)), omega (arith, (c .before .before .number .ensures .1)), noticed (c .before .before .before .before .before .before .before .before .before .before .args .number) (c .before .before .before .before .before .before .before .before .before .before .args .at) (c .before .before .number .result) (c .before .before .before .before .before .before .before .before .before .before .args .out .now) (c .before .before .number .last .1 .0) (c .before .before .number .ensures .0) (rw (c .before .before .before .before .before .before .copy .ensures) at (c .before .before .number .ensures .2)))))
+    same-length
+    returns)

@@ -9,17 +9,50 @@ use Rattle.answers.proofs.Telling.{obeyed-told}
 use Rattle.answering.proofs.obey.Statement.{statement}
 use Rattle.answering.proofs.obey.Tie as tie
 
+slice-write-out-2 : tie.Need-slice-write-out-2
+slice-write-out-2 c =
+    let after-tell-line = c .before .before .before .before .before .before .before .before .before in
+    let start = after-tell-line .before .before .before .before .before .before .before .before .before .before in
+    let k = after-tell-line .tell-line .kept .1 .1 .1 .1 .1 .1 .0 ∙ length-set (start .args .out .now) (start .args .at) 62 in
+    omega (arith, after-tell-line .tell-line .ensures .1, k)
+
+add-t21 : tie.Need-add-t21
+add-t21 c =
+    let after-tell-line = c .before .before .before .before .before .before .before .before .before in
+    let start = after-tell-line .before .before .before .before .before .before .before .before .before .before in
+    omega (arith, after-tell-line .tell-line .ensures .1, start .pre .1, start .good .1 .1 .1 .1 .1 .1 .0 .0)
+
+same-length-4 : tie.Need-same-length-4
+same-length-4 c =
+    let after-tell-line = c .before .before .before .before .before .before .before .before .before in
+    let start = after-tell-line .before .before .before .before .before .before .before .before .before .before in
+    length-set (after-tell-line .tell-line .last .1 .1 .1 .1 .1 .1 .0) (after-tell-line .tell-line .result .end) 10 ∙
+    after-tell-line .tell-line .kept .1 .1 .1 .1 .1 .1 .0 ∙ length-set (start .args .out .now) (start .args .at) 62
+
+returns : tie.Need-returns
+returns c =
+    let after-tell-line = c .before .before .before .before .before .before .before .before .before in
+    let start = after-tell-line .before .before .before .before .before .before .before .before .before .before in (
+      obeyed-told (tells (callsOf (start .args .kind) (start .args .line .now))
+          (stateOf (start .args .session) (start .args .flash .now) (start .args .sram .now) (start .args .usd .now))) (start .args .at)
+          (after-tell-line .tell-line .result .end) (start .args .out .now) (after-tell-line .tell-line .last .1 .1 .1 .1 .1 .1 .0)
+          (stateOf (after-tell-line .tell-line .result .session) (after-tell-line .tell-line .last .1 .1 .1 .0)
+          (after-tell-line .tell-line .last .1 .1 .1 .1 .0) (after-tell-line .tell-line .last .1 .1 .1 .1 .1 .0))
+          (after-tell-line .tell-line .ensures .0),
+      omega (arith, after-tell-line .tell-line .ensures .1),
+    )
+
 pub obey-spec : {M : Type 1} → statement M
 obey-spec =
     tie.close
     (tie.spec
     (λ c. search needs)
     (λ c. search needs)
-    (λ c κs. ((c .before .before .before .before .before .before .before .before .before .pre .0), simp length-set (omega arith)))
-    (λ c. let k = (c .before .before .before .before .before .before .before .before .before .tell-line .kept .1 .1 .1 .1 .1 .1 .0) ∙ length-set (c .before .before .before .before .before .before .before .before .before .before .before .before .before .before .before .before .before .before .before .args .out .now) (c .before .before .before .before .before .before .before .before .before .before .before .before .before .before .before .before .before .before .before .args .at) 62 in omega (arith, (c .before .before .before .before .before .before .before .before .before .tell-line .ensures .1), k))
-    (λ c. omega (arith, (c .before .before .before .before .before .before .before .before .before .tell-line .ensures .1), (c .before .before .before .before .before .before .before .before .before .before .before .before .before .before .before .before .before .before .before .pre .1), (c .before .before .before .before .before .before .before .before .before .before .before .before .before .before .before .before .before .before .before .good .1 .1 .1 .1 .1 .1 .0 .0)))
+    (λ c κs. (c .before .before .before .before .before .before .before .before .before .pre .0, simp length-set (omega arith)))
+    slice-write-out-2
+    add-t21
     (λ c. search needs)
     (λ c. search needs)
     (λ c. search needs)
-    (λ c. length-set (c .before .before .before .before .before .before .before .before .before .tell-line .last .1 .1 .1 .1 .1 .1 .0) (c .before .before .before .before .before .before .before .before .before .tell-line .result .end) 10 ∙ (c .before .before .before .before .before .before .before .before .before .tell-line .kept .1 .1 .1 .1 .1 .1 .0) ∙ length-set (c .before .before .before .before .before .before .before .before .before .before .before .before .before .before .before .before .before .before .before .args .out .now) (c .before .before .before .before .before .before .before .before .before .before .before .before .before .before .before .before .before .before .before .args .at) 62)
-    (λ c. (obeyed-told (tells (callsOf (c .before .before .before .before .before .before .before .before .before .before .before .before .before .before .before .before .before .before .before .args .kind) (c .before .before .before .before .before .before .before .before .before .before .before .before .before .before .before .before .before .before .before .args .line .now)) (stateOf (c .before .before .before .before .before .before .before .before .before .before .before .before .before .before .before .before .before .before .before .args .session) (c .before .before .before .before .before .before .before .before .before .before .before .before .before .before .before .before .before .before .before .args .flash .now) (c .before .before .before .before .before .before .before .before .before .before .before .before .before .before .before .before .before .before .before .args .sram .now) (c .before .before .before .before .before .before .before .before .before .before .before .before .before .before .before .before .before .before .before .args .usd .now))) (c .before .before .before .before .before .before .before .before .before .before .before .before .before .before .before .before .before .before .before .args .at) (c .before .before .before .before .before .before .before .before .before .tell-line .result .end) (c .before .before .before .before .before .before .before .before .before .before .before .before .before .before .before .before .before .before .before .args .out .now) (c .before .before .before .before .before .before .before .before .before .tell-line .last .1 .1 .1 .1 .1 .1 .0) (stateOf (c .before .before .before .before .before .before .before .before .before .tell-line .result .session) (c .before .before .before .before .before .before .before .before .before .tell-line .last .1 .1 .1 .0) (c .before .before .before .before .before .before .before .before .before .tell-line .last .1 .1 .1 .1 .0) (c .before .before .before .before .before .before .before .before .before .tell-line .last .1 .1 .1 .1 .1 .0)) (c .before .before .before .before .before .before .before .before .before .tell-line .ensures .0), omega (arith, (c .before .before .before .before .before .before .before .before .before .tell-line .ensures .1)))))
+    same-length-4
+    returns)

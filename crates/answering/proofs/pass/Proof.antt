@@ -16,6 +16,80 @@ use Rattle.answering.proofs.Passing.{passed}
 use Rattle.answering.proofs.pass.Statement.{statement}
 use Rattle.answering.proofs.pass.Tie as tie
 
+slice-aggregate-bytes : tie.Need-slice-aggregate-bytes
+slice-aggregate-bytes c =
+    let after-silent-bytes = c .before .before in
+    let start = after-silent-bytes .before .before in
+    sym (length-take-le (3 * after-silent-bytes .silent-bytes .result) (start .args .rest .now)
+    (omega (arith, after-silent-bytes .silent-bytes .ensures .0)))
+
+bytes-requires : tie.Need-bytes-requires
+bytes-requires c κs =
+    let else1 = c .before .before in
+    let after-silent-bytes = else1 .before in
+    let start = after-silent-bytes .before .before in
+    let k = past 0 (after-silent-bytes .silent-bytes .result) (omega arith) (else1 .if1 .left) in
+    let g = (after-silent-bytes .silent-bytes .ensures .1) k in
+    let p =
+    parted (after-silent-bytes .silent-bytes .result) (start .args .rest .now) (start .pre)
+    (omega (arith, after-silent-bytes .silent-bytes .ensures .0)) in (
+      p .front,
+      omega (
+        arith,
+        length-take-le (3 * after-silent-bytes .silent-bytes .result) (start .args .rest .now)
+            (omega (arith, after-silent-bytes .silent-bytes .ensures .0)),
+        g .short,
+        sound-expected (start .args .session) (g .firm),
+      ),
+    )
+
+array-share-prefix-new : tie.Need-array-share-prefix-new
+array-share-prefix-new c =
+    let else1 = c .before .before .before .before in
+    let after-silent-bytes = else1 .before in
+    let start = after-silent-bytes .before .before in
+    let k = past 0 (after-silent-bytes .silent-bytes .result) (omega arith) (else1 .if1 .left) in
+    let g = (after-silent-bytes .silent-bytes .ensures .1) k in
+    omega (arith, g .short, sound-expected (start .args .session) (g .firm))
+
+slice-aggregate-gather : tie.Need-slice-aggregate-gather
+slice-aggregate-gather c =
+    let after-bytes = c .before .before in
+    let else1 = after-bytes .before .before .before in
+    let after-silent-bytes = else1 .before in
+    let start = after-silent-bytes .before .before in
+    let k = past 0 (after-silent-bytes .silent-bytes .result) (omega arith) (else1 .if1 .left) in
+    let g = (after-silent-bytes .silent-bytes .ensures .1) k in
+    sym (length-take-le (after-silent-bytes .silent-bytes .result) (after-bytes .bytes .last .1 .0)
+    (omega (arith, after-bytes .bytes .kept .1 .0, g .short, sound-expected (start .args .session) (g .firm))))
+
+gather-requires : tie.Need-gather-requires
+gather-requires c κs =
+    let else1 = c .before .before .before .before .before in
+    let after-silent-bytes = else1 .before in
+    let start = after-silent-bytes .before .before in
+    let k = past 0 (after-silent-bytes .silent-bytes .result) (omega arith) (else1 .if1 .left) in
+    let g = (after-silent-bytes .silent-bytes .ensures .1) k in
+    (sound-taken (start .args .session) (g .firm), sound-expected (start .args .session) (g .firm))
+
+returns-2 : tie.Need-returns-2
+returns-2 c =
+    let after-bytes = c .before .before .before in
+    let else1 = after-bytes .before .before .before in
+    let after-silent-bytes = else1 .before in
+    let start = after-silent-bytes .before .before in
+    let n = after-silent-bytes .silent-bytes .result in
+    let k = past 0 n (omega arith) (else1 .if1 .left) in
+    let g = (after-silent-bytes .silent-bytes .ensures .1) k in
+    let p = parted n (start .args .rest .now) (start .pre) (omega (arith, after-silent-bytes .silent-bytes .ensures .0)) in
+    let f =
+    at-front (fields (take (3 * n) (start .args .rest .now))) (replicate 257 0) n (p .count)
+    (omega (arith, g .short, sound-expected (start .args .session) (g .firm), length-replicate {A = ℕ} 257 0)) in
+    passed (start .args .session) (start .args .flash) (start .args .sram) (start .args .usd) (start .args .rest .now) n (start .pre)
+    (omega (arith, after-silent-bytes .silent-bytes .ensures .0)) k g (c .gather .result)
+    (c .gather .ensures ∙ ap (λ (l : List ℕ). gathered l (start .args .session))
+    (ap (λ (l : List ℕ). take n l) (after-bytes .bytes .ensures .1) ∙ f))
+
 pub pass-spec : {M : Type 1} → statement M
 pass-spec =
     tie.close
@@ -23,10 +97,10 @@ pass-spec =
     (λ c κs. search needs)
     (λ c. search needs)
     (λ c. search needs)
-    (λ c. sym (length-take-le (3 * (c .before .before .silent-bytes .result)) (c .before .before .before .before .args .rest .now) (omega (arith, (c .before .before .silent-bytes .ensures .0)))))
+    slice-aggregate-bytes
     (λ c. search needs)
-    (λ c κs. let k = past 0 (c .before .before .before .silent-bytes .result) (omega arith) (c .before .before .if1 .left) in let g = (c .before .before .before .silent-bytes .ensures .1) k in let p = parted (c .before .before .before .silent-bytes .result) (c .before .before .before .before .before .args .rest .now) (c .before .before .before .before .before .pre) (omega (arith, (c .before .before .before .silent-bytes .ensures .0))) in (p .front, omega (arith, length-take-le (3 * (c .before .before .before .silent-bytes .result)) (c .before .before .before .before .before .args .rest .now) (omega (arith, (c .before .before .before .silent-bytes .ensures .0))), g .short, sound-expected (c .before .before .before .before .before .args .session) (g .firm))))
-    (λ c. let k = past 0 (c .before .before .before .before .before .silent-bytes .result) (omega arith) (c .before .before .before .before .if1 .left) in let g = (c .before .before .before .before .before .silent-bytes .ensures .1) k in omega (arith, g .short, sound-expected (c .before .before .before .before .before .before .before .args .session) (g .firm)))
-    (λ c. let k = past 0 (c .before .before .before .before .before .before .silent-bytes .result) (omega arith) (c .before .before .before .before .before .if1 .left) in let g = (c .before .before .before .before .before .before .silent-bytes .ensures .1) k in sym (length-take-le (c .before .before .before .before .before .before .silent-bytes .result) (c .before .before .bytes .last .1 .0) (omega (arith, (c .before .before .bytes .kept .1 .0), g .short, sound-expected (c .before .before .before .before .before .before .before .before .args .session) (g .firm)))))
-    (λ c κs. let k = past 0 (c .before .before .before .before .before .before .silent-bytes .result) (omega arith) (c .before .before .before .before .before .if1 .left) in let g = (c .before .before .before .before .before .before .silent-bytes .ensures .1) k in (sound-taken (c .before .before .before .before .before .before .before .before .args .session) (g .firm), sound-expected (c .before .before .before .before .before .before .before .before .args .session) (g .firm)))
-    (λ c. let n = (c .before .before .before .before .before .before .before .silent-bytes .result) in let k = past 0 n (omega arith) (c .before .before .before .before .before .before .if1 .left) in let g = (c .before .before .before .before .before .before .before .silent-bytes .ensures .1) k in let p = parted n (c .before .before .before .before .before .before .before .before .before .args .rest .now) (c .before .before .before .before .before .before .before .before .before .pre) (omega (arith, (c .before .before .before .before .before .before .before .silent-bytes .ensures .0))) in let f = at-front (fields (take (3 * n) (c .before .before .before .before .before .before .before .before .before .args .rest .now))) (replicate 257 0) n (p .count) (omega (arith, g .short, sound-expected (c .before .before .before .before .before .before .before .before .before .args .session) (g .firm), length-replicate {A = ℕ} 257 0)) in passed (c .before .before .before .before .before .before .before .before .before .args .session) (c .before .before .before .before .before .before .before .before .before .args .flash) (c .before .before .before .before .before .before .before .before .before .args .sram) (c .before .before .before .before .before .before .before .before .before .args .usd) (c .before .before .before .before .before .before .before .before .before .args .rest .now) n (c .before .before .before .before .before .before .before .before .before .pre) (omega (arith, (c .before .before .before .before .before .before .before .silent-bytes .ensures .0))) k g (c .gather .result) ((c .gather .ensures) ∙ ap (λ (l : List ℕ). gathered l (c .before .before .before .before .before .before .before .before .before .args .session)) (ap (λ (l : List ℕ). take n l) (c .before .before .before .bytes .ensures .1) ∙ f))))
+    bytes-requires
+    array-share-prefix-new
+    slice-aggregate-gather
+    gather-requires
+    returns-2)

@@ -2,11 +2,47 @@
 use borrow.Author.Needs.{needs}
 use native.Mathlib.Omega.{arith}
 use mathlib.Core.Path.{refl}
+use Prim.Native.Nat.{_≤_}
 use lib.ListN.{replicate}
-use Rattle.boot.specs.Promise.{left, givenByte}
+use Rattle.boot.specs.Promise.{Left, left, Given, givenByte}
+use Rattle.answers.specs.Answers.{deskRoom}
 use Rattle.answers.proofs.Telling.{took-fits, byte-told}
 use Rattle.answering.proofs.tell_byte.Statement.{statement}
 use Rattle.answering.proofs.tell_byte.Tie as tie
+
+-- the start of the call that was made, what it was given, and what it left
+abbrev start : tie.After-take-byte → tie.Start
+start c = c .before .before .before .before .before .before .before .before .before
+
+abbrev given : tie.After-take-byte → Given
+given c =
+    givenByte (start c .args .session) (start c .args .byte) (start c .args .flash .now) (start c .args .sram .now)
+    (start c .args .usd .now) (replicate deskRoom 0)
+
+abbrev leaves : tie.After-take-byte → Left
+leaves c =
+    let last = c .take-byte .last in
+    left (c .take-byte .result) (last .1 .1 .0) (last .1 .1 .1 .0) (last .1 .1 .1 .1 .0) (last .1 .1 .1 .1 .1 .0)
+
+-- its reply is no longer than the room lent for it
+fits : (c : tie.After-take-byte) → c .take-byte .result .length ≤ deskRoom
+fits c = took-fits (given c) (leaves c) (c .take-byte .ensures) (c .take-byte .kept .1 .1 .1 .1 .1 .0)
+
+bytes-requires : tie.Need-bytes-requires
+bytes-requires c κs =
+    let taken = c .before .before .before .before .before .before .before .before .before .before in
+    (omega (arith, fits taken, taken .take-byte .kept .1 .1 .1 .1 .1 .0), omega (arith, fits taken, start taken .pre))
+
+returns : tie.Need-returns
+returns c =
+    let printed = c .before .before .bytes in
+    let taken = c .before .before .before .before .before .before .before .before .before .before .before .before .before in
+    let args = start taken .args in (
+      byte-told (args .session) (args .byte) (args .flash .now) (args .sram .now) (args .usd .now) (replicate deskRoom 0) refl (leaves taken)
+          (taken .take-byte .ensures) (args .at) (printed .result) (args .out .now) (printed .last .1 .1 .0) (printed .ensures .0)
+          (printed .ensures .1),
+      omega (arith, fits taken, printed .ensures .0),
+    )
 
 pub tell-byte-spec : {M : Type 1} → statement M
 tell-byte-spec =
@@ -15,9 +51,9 @@ tell-byte-spec =
     (λ c. search needs)
     (λ c κs. search needs)
     (λ c. search needs)
-    (λ c κs. let f = took-fits (givenByte (c .before .before .before .before .before .before .before .before .before .before .before .before .before .before .before .before .before .before .before .args .session) (c .before .before .before .before .before .before .before .before .before .before .before .before .before .before .before .before .before .before .before .args .byte) (c .before .before .before .before .before .before .before .before .before .before .before .before .before .before .before .before .before .before .before .args .flash .now) (c .before .before .before .before .before .before .before .before .before .before .before .before .before .before .before .before .before .before .before .args .sram .now) (c .before .before .before .before .before .before .before .before .before .before .before .before .before .before .before .before .before .before .before .args .usd .now) (replicate 363 0)) (left (c .before .before .before .before .before .before .before .before .before .before .take-byte .result) (c .before .before .before .before .before .before .before .before .before .before .take-byte .last .1 .1 .0) (c .before .before .before .before .before .before .before .before .before .before .take-byte .last .1 .1 .1 .0) (c .before .before .before .before .before .before .before .before .before .before .take-byte .last .1 .1 .1 .1 .0) (c .before .before .before .before .before .before .before .before .before .before .take-byte .last .1 .1 .1 .1 .1 .0)) (c .before .before .before .before .before .before .before .before .before .before .take-byte .ensures) (c .before .before .before .before .before .before .before .before .before .before .take-byte .kept .1 .1 .1 .1 .1 .0) in (omega arith, omega arith))
+    bytes-requires
     (λ c. search needs)
     (λ c. search needs)
     (λ c. search needs)
     (λ c. search needs)
-    (λ c. let g = givenByte (c .before .before .before .before .before .before .before .before .before .before .before .before .before .before .before .before .before .before .before .before .before .before .args .session) (c .before .before .before .before .before .before .before .before .before .before .before .before .before .before .before .before .before .before .before .before .before .before .args .byte) (c .before .before .before .before .before .before .before .before .before .before .before .before .before .before .before .before .before .before .before .before .before .before .args .flash .now) (c .before .before .before .before .before .before .before .before .before .before .before .before .before .before .before .before .before .before .before .before .before .before .args .sram .now) (c .before .before .before .before .before .before .before .before .before .before .before .before .before .before .before .before .before .before .before .before .before .before .args .usd .now) (replicate 363 0) in let l = left (c .before .before .before .before .before .before .before .before .before .before .before .before .before .take-byte .result) (c .before .before .before .before .before .before .before .before .before .before .before .before .before .take-byte .last .1 .1 .0) (c .before .before .before .before .before .before .before .before .before .before .before .before .before .take-byte .last .1 .1 .1 .0) (c .before .before .before .before .before .before .before .before .before .before .before .before .before .take-byte .last .1 .1 .1 .1 .0) (c .before .before .before .before .before .before .before .before .before .before .before .before .before .take-byte .last .1 .1 .1 .1 .1 .0) in let f = took-fits g l (c .before .before .before .before .before .before .before .before .before .before .before .before .before .take-byte .ensures) (c .before .before .before .before .before .before .before .before .before .before .before .before .before .take-byte .kept .1 .1 .1 .1 .1 .0) in (byte-told (c .before .before .before .before .before .before .before .before .before .before .before .before .before .before .before .before .before .before .before .before .before .before .args .session) (c .before .before .before .before .before .before .before .before .before .before .before .before .before .before .before .before .before .before .before .before .before .before .args .byte) (c .before .before .before .before .before .before .before .before .before .before .before .before .before .before .before .before .before .before .before .before .before .before .args .flash .now) (c .before .before .before .before .before .before .before .before .before .before .before .before .before .before .before .before .before .before .before .before .before .before .args .sram .now) (c .before .before .before .before .before .before .before .before .before .before .before .before .before .before .before .before .before .before .before .before .before .before .args .usd .now) (replicate 363 0) refl l (c .before .before .before .before .before .before .before .before .before .before .before .before .before .take-byte .ensures) (c .before .before .before .before .before .before .before .before .before .before .before .before .before .before .before .before .before .before .before .before .before .before .args .at) (c .before .before .bytes .result) (c .before .before .before .before .before .before .before .before .before .before .before .before .before .before .before .before .before .before .before .before .before .before .args .out .now) (c .before .before .bytes .last .1 .1 .0) (c .before .before .bytes .ensures .0) (c .before .before .bytes .ensures .1), omega (arith, (c .before .before .bytes .ensures .0)))))
+    returns)

@@ -1,14 +1,14 @@
 -- The frame is made, the call leaves what it promises, and the front of the room, which is whole frames, is printed.
 use borrow.Author.Needs.{needs}
 use native.Mathlib.Omega.{arith}
-use mathlib.Core.Path.{refl, sym, ap, subst, _∙_}
+use mathlib.Core.Path.{_≡_, refl, sym, ap, subst, _∙_}
 use mathlib.Core.List.{List, [], _∷_}
-use Prim.Native.Nat.{ℕ, _%_}
-use lib.ListN.{length, replicate}
+use Prim.Native.Nat.{ℕ, _%_, _≤_}
+use lib.ListN.{length, take, replicate}
 use lib.Seq.{length-take-le}
 use Rattle.frames.specs.Frames.{classic, frameBytes}
 use Rattle.boot.specs.Calls.{Framed}
-use Rattle.boot.specs.Promise.{left, givenFrame, stateOf, outcome}
+use Rattle.boot.specs.Promise.{Left, left, Given, givenFrame, stateOf, outcome}
 use Rattle.lines.proofs.Lines.{frame-good}
 use Rattle.answers.specs.Answers.{deskRoom, tells}
 use Rattle.answers.specs.Promise.{Tells}
@@ -16,8 +16,70 @@ use Rattle.answers.proofs.Telling.{took-fits, took-reply, input-told, frame-who
 use Rattle.answering.proofs.tell_frame.Tie as tie
 use Rattle.answering.proofs.tell_frame.Statement.{statement}
 
-pub tell-frame-spec : {M : Type 1} → statement M
+-- the frame that was made, and the start of the call that it was given to
+abbrev made : tie.After-take-frame → tie.After-frame
+made c = c .before .before .before .before .before .before .before
+
+abbrev start : tie.After-take-frame → tie.Start
+start c = made c .before .before .before .before .before .before .before
+
+-- what the call was given, and what it left
+abbrev given : tie.After-take-frame → Given
+given c =
+    givenFrame (start c .args .session) (made c .frame .last .1 .0) (start c .args .flash .now) (start c .args .sram .now)
+    (start c .args .usd .now) (replicate deskRoom 0)
+
+abbrev leaves : tie.After-take-frame → Left
+leaves c =
+    let last = c .take-frame .last in
+    left (c .take-frame .result) (last .1 .1 .0) (last .1 .1 .1 .0) (last .1 .1 .1 .1 .0) (last .1 .1 .1 .1 .1 .0)
+
+-- its reply is no longer than the room lent for it, and stands there whole
+fits : (c : tie.After-take-frame) → c .take-frame .result .length ≤ deskRoom
+fits c = took-fits (given c) (leaves c) (c .take-frame .ensures) (c .take-frame .kept .1 .1 .1 .1 .1 .0)
+
+whole : (c : tie.After-take-frame) → length (take (c .take-frame .result .length) (leaves c .buffer)) ≡ c .take-frame .result .length
+whole c =
+    length-take-le (c .take-frame .result .length) (leaves c .buffer) (omega (arith, fits c, c .take-frame .kept .1 .1 .1 .1 .1 .0))
+
+array-share-prefix-buffer : tie.Need-array-share-prefix-buffer
+array-share-prefix-buffer c =
+    let taken = c .before .before .before .before .before .before .before .before in
+    omega (arith, fits taken, taken .take-frame .kept .1 .1 .1 .1 .1 .0)
+
+slice-aggregate-frames : tie.Need-slice-aggregate-frames
+slice-aggregate-frames c = sym (whole (c .before .before .before .before .before .before .before .before .before))
+
+frames-requires : tie.Need-frames-requires
 unfolding outcome
+frames-requires c κs =
+    let taken = c .before .before .before .before .before .before .before .before .before .before in
+    let o = frame-good (start taken .args .rest .now) (start taken .pre .0) in (
+      ap (λ (r : List ℕ). length r % frameBytes classic) (took-reply (given taken) (leaves taken) (taken .take-frame .ensures))
+          ∙ frame-whole deskRoom (made taken .frame .last .1 .0) (given taken .state),
+      omega (arith, whole taken, fits taken, o .long, start taken .pre .1),
+    )
+
+returns : tie.Need-returns
+returns c =
+    let printed = c .before .before .frames in
+    let taken = c .before .before .before .before .before .before .before .before .before .before .before .before .before in
+    let args = start taken .args in
+    let frame = made taken .frame .last .1 .0 in
+    let out = printed .last .1 .0 in
+    let o = frame-good (args .rest .now) (start taken .pre .0) in
+    let p = given taken .state in
+    let q = stateOf (taken .take-frame .result .session) (leaves taken .flash) (leaves taken .sram) (leaves taken .usd) in (
+      subst (λ (w : List ℕ). Tells (tells (Framed deskRoom w ∷ []) p) (args .at) (args .out .now) (printed .result) out q)
+          (made taken .frame .ensures)
+          (one-call (Framed deskRoom frame) p (args .at) (printed .result) (args .out .now) out q
+          (input-told (λ (n : ℕ). Framed n frame) (args .session) (args .flash .now) (args .sram .now) (args .usd .now)
+          (replicate deskRoom 0) refl (leaves taken) (taken .take-frame .ensures) (args .at) (printed .result) (args .out .now) out
+          (printed .ensures .0) (printed .ensures .2))),
+      omega (arith, printed .ensures .1, whole taken, fits taken, o .long),
+    )
+
+pub tell-frame-spec : {M : Type 1} → statement M
 tell-frame-spec =
     tie.close
     (tie.spec
@@ -26,11 +88,11 @@ tell-frame-spec =
     (λ c. search needs)
     (λ c. search needs)
     (λ c κs. search needs)
-    (λ c. let g = givenFrame ((c .before .before .before .before .before .before .before .before .before .before .before .before .before .before .before .before .before .before .before .before .before .before .args .session)) (((c .before .before .before .before .before .before .before .before .before .before .before .before .before .before .before .frame .last .1 .0))) ((c .before .before .before .before .before .before .before .before .before .before .before .before .before .before .before .before .before .before .before .before .before .before .args .flash .now)) ((c .before .before .before .before .before .before .before .before .before .before .before .before .before .before .before .before .before .before .before .before .before .before .args .sram .now)) ((c .before .before .before .before .before .before .before .before .before .before .before .before .before .before .before .before .before .before .before .before .before .before .args .usd .now)) (replicate 363 0) in let l = left ((c .before .before .before .before .before .before .before .before .take-frame .result)) (((c .before .before .before .before .before .before .before .before .take-frame .last .1 .1 .0))) (((c .before .before .before .before .before .before .before .before .take-frame .last .1 .1 .1 .0))) (((c .before .before .before .before .before .before .before .before .take-frame .last .1 .1 .1 .1 .0))) (((c .before .before .before .before .before .before .before .before .take-frame .last .1 .1 .1 .1 .1 .0))) in let f = took-fits g l ((c .before .before .before .before .before .before .before .before .take-frame .ensures)) (((c .before .before .before .before .before .before .before .before .take-frame .kept .1 .1 .1 .1 .1 .0))) in omega (arith, f, ((c .before .before .before .before .before .before .before .before .take-frame .kept .1 .1 .1 .1 .1 .0))))
-    (λ c. let g = givenFrame ((c .before .before .before .before .before .before .before .before .before .before .before .before .before .before .before .before .before .before .before .before .before .before .before .args .session)) (((c .before .before .before .before .before .before .before .before .before .before .before .before .before .before .before .before .frame .last .1 .0))) ((c .before .before .before .before .before .before .before .before .before .before .before .before .before .before .before .before .before .before .before .before .before .before .before .args .flash .now)) ((c .before .before .before .before .before .before .before .before .before .before .before .before .before .before .before .before .before .before .before .before .before .before .before .args .sram .now)) ((c .before .before .before .before .before .before .before .before .before .before .before .before .before .before .before .before .before .before .before .before .before .before .before .args .usd .now)) (replicate 363 0) in let l = left ((c .before .before .before .before .before .before .before .before .before .take-frame .result)) (((c .before .before .before .before .before .before .before .before .before .take-frame .last .1 .1 .0))) (((c .before .before .before .before .before .before .before .before .before .take-frame .last .1 .1 .1 .0))) (((c .before .before .before .before .before .before .before .before .before .take-frame .last .1 .1 .1 .1 .0))) (((c .before .before .before .before .before .before .before .before .before .take-frame .last .1 .1 .1 .1 .1 .0))) in let f = took-fits g l ((c .before .before .before .before .before .before .before .before .before .take-frame .ensures)) (((c .before .before .before .before .before .before .before .before .before .take-frame .kept .1 .1 .1 .1 .1 .0))) in sym (length-take-le ((c .before .before .before .before .before .before .before .before .before .take-frame .result .length)) (((c .before .before .before .before .before .before .before .before .before .take-frame .last .1 .1 .1 .1 .1 .0))) (omega (arith, f, ((c .before .before .before .before .before .before .before .before .before .take-frame .kept .1 .1 .1 .1 .1 .0))))))
-    (λ c κs. let g = givenFrame ((c .before .before .before .before .before .before .before .before .before .before .before .before .before .before .before .before .before .before .before .before .before .before .before .before .args .session)) (((c .before .before .before .before .before .before .before .before .before .before .before .before .before .before .before .before .before .frame .last .1 .0))) ((c .before .before .before .before .before .before .before .before .before .before .before .before .before .before .before .before .before .before .before .before .before .before .before .before .args .flash .now)) ((c .before .before .before .before .before .before .before .before .before .before .before .before .before .before .before .before .before .before .before .before .before .before .before .before .args .sram .now)) ((c .before .before .before .before .before .before .before .before .before .before .before .before .before .before .before .before .before .before .before .before .before .before .before .before .args .usd .now)) (replicate 363 0) in let l = left ((c .before .before .before .before .before .before .before .before .before .before .take-frame .result)) (((c .before .before .before .before .before .before .before .before .before .before .take-frame .last .1 .1 .0))) (((c .before .before .before .before .before .before .before .before .before .before .take-frame .last .1 .1 .1 .0))) (((c .before .before .before .before .before .before .before .before .before .before .take-frame .last .1 .1 .1 .1 .0))) (((c .before .before .before .before .before .before .before .before .before .before .take-frame .last .1 .1 .1 .1 .1 .0))) in let f = took-fits g l ((c .before .before .before .before .before .before .before .before .before .before .take-frame .ensures)) (((c .before .before .before .before .before .before .before .before .before .before .take-frame .kept .1 .1 .1 .1 .1 .0))) in let k = length-take-le ((c .before .before .before .before .before .before .before .before .before .before .take-frame .result .length)) (((c .before .before .before .before .before .before .before .before .before .before .take-frame .last .1 .1 .1 .1 .1 .0))) (omega (arith, f, ((c .before .before .before .before .before .before .before .before .before .before .take-frame .kept .1 .1 .1 .1 .1 .0)))) in let o = frame-good ((c .before .before .before .before .before .before .before .before .before .before .before .before .before .before .before .before .before .before .before .before .before .before .before .before .args .rest .now)) ((c .before .before .before .before .before .before .before .before .before .before .before .before .before .before .before .before .before .before .before .before .before .before .before .before .pre .0)) in (ap (λ (r : List ℕ). length r % frameBytes classic) (took-reply g l ((c .before .before .before .before .before .before .before .before .before .before .take-frame .ensures))) ∙ frame-whole 363 (((c .before .before .before .before .before .before .before .before .before .before .before .before .before .before .before .before .before .frame .last .1 .0))) (stateOf ((c .before .before .before .before .before .before .before .before .before .before .before .before .before .before .before .before .before .before .before .before .before .before .before .before .args .session)) ((c .before .before .before .before .before .before .before .before .before .before .before .before .before .before .before .before .before .before .before .before .before .before .before .before .args .flash .now)) ((c .before .before .before .before .before .before .before .before .before .before .before .before .before .before .before .before .before .before .before .before .before .before .before .before .args .sram .now)) ((c .before .before .before .before .before .before .before .before .before .before .before .before .before .before .before .before .before .before .before .before .before .before .before .before .args .usd .now))), omega (arith, k, f, o .long, ((c .before .before .before .before .before .before .before .before .before .before .before .before .before .before .before .before .before .before .before .before .before .before .before .before .pre .1)))))
+    array-share-prefix-buffer
+    slice-aggregate-frames
+    frames-requires
     (λ c. search needs)
     (λ c. search needs)
     (λ c. search needs)
     (λ c. search needs)
-    (λ c. let g = givenFrame ((c .before .before .before .before .before .before .before .before .before .before .before .before .before .before .before .before .before .before .before .before .before .before .before .before .before .before .before .args .session)) (((c .before .before .before .before .before .before .before .before .before .before .before .before .before .before .before .before .before .before .before .before .frame .last .1 .0))) ((c .before .before .before .before .before .before .before .before .before .before .before .before .before .before .before .before .before .before .before .before .before .before .before .before .before .before .before .args .flash .now)) ((c .before .before .before .before .before .before .before .before .before .before .before .before .before .before .before .before .before .before .before .before .before .before .before .before .before .before .before .args .sram .now)) ((c .before .before .before .before .before .before .before .before .before .before .before .before .before .before .before .before .before .before .before .before .before .before .before .before .before .before .before .args .usd .now)) (replicate 363 0) in let l = left ((c .before .before .before .before .before .before .before .before .before .before .before .before .before .take-frame .result)) (((c .before .before .before .before .before .before .before .before .before .before .before .before .before .take-frame .last .1 .1 .0))) (((c .before .before .before .before .before .before .before .before .before .before .before .before .before .take-frame .last .1 .1 .1 .0))) (((c .before .before .before .before .before .before .before .before .before .before .before .before .before .take-frame .last .1 .1 .1 .1 .0))) (((c .before .before .before .before .before .before .before .before .before .before .before .before .before .take-frame .last .1 .1 .1 .1 .1 .0))) in let f = took-fits g l ((c .before .before .before .before .before .before .before .before .before .before .before .before .before .take-frame .ensures)) (((c .before .before .before .before .before .before .before .before .before .before .before .before .before .take-frame .kept .1 .1 .1 .1 .1 .0))) in let k = length-take-le ((c .before .before .before .before .before .before .before .before .before .before .before .before .before .take-frame .result .length)) (((c .before .before .before .before .before .before .before .before .before .before .before .before .before .take-frame .last .1 .1 .1 .1 .1 .0))) (omega (arith, f, ((c .before .before .before .before .before .before .before .before .before .before .before .before .before .take-frame .kept .1 .1 .1 .1 .1 .0)))) in let o = frame-good ((c .before .before .before .before .before .before .before .before .before .before .before .before .before .before .before .before .before .before .before .before .before .before .before .before .before .before .before .args .rest .now)) ((c .before .before .before .before .before .before .before .before .before .before .before .before .before .before .before .before .before .before .before .before .before .before .before .before .before .before .before .pre .0)) in let p = stateOf ((c .before .before .before .before .before .before .before .before .before .before .before .before .before .before .before .before .before .before .before .before .before .before .before .before .before .before .before .args .session)) ((c .before .before .before .before .before .before .before .before .before .before .before .before .before .before .before .before .before .before .before .before .before .before .before .before .before .before .before .args .flash .now)) ((c .before .before .before .before .before .before .before .before .before .before .before .before .before .before .before .before .before .before .before .before .before .before .before .before .before .before .before .args .sram .now)) ((c .before .before .before .before .before .before .before .before .before .before .before .before .before .before .before .before .before .before .before .before .before .before .before .before .before .before .before .args .usd .now)) in let q = stateOf ((c .before .before .before .before .before .before .before .before .before .before .before .before .before .take-frame .result .session)) (((c .before .before .before .before .before .before .before .before .before .before .before .before .before .take-frame .last .1 .1 .0))) (((c .before .before .before .before .before .before .before .before .before .before .before .before .before .take-frame .last .1 .1 .1 .0))) (((c .before .before .before .before .before .before .before .before .before .before .before .before .before .take-frame .last .1 .1 .1 .1 .0))) in (subst (λ (w : List ℕ). Tells (tells (Framed deskRoom w ∷ []) p) ((c .before .before .before .before .before .before .before .before .before .before .before .before .before .before .before .before .before .before .before .before .before .before .before .before .before .before .before .args .at)) ((c .before .before .before .before .before .before .before .before .before .before .before .before .before .before .before .before .before .before .before .before .before .before .before .before .before .before .before .args .out .now)) ((c .before .before .frames .result)) (((c .before .before .frames .last .1 .0))) q) ((c .before .before .before .before .before .before .before .before .before .before .before .before .before .before .before .before .before .before .before .before .frame .ensures)) (one-call (Framed deskRoom (((c .before .before .before .before .before .before .before .before .before .before .before .before .before .before .before .before .before .before .before .before .frame .last .1 .0)))) p ((c .before .before .before .before .before .before .before .before .before .before .before .before .before .before .before .before .before .before .before .before .before .before .before .before .before .before .before .args .at)) ((c .before .before .frames .result)) ((c .before .before .before .before .before .before .before .before .before .before .before .before .before .before .before .before .before .before .before .before .before .before .before .before .before .before .before .args .out .now)) (((c .before .before .frames .last .1 .0))) q (input-told (λ (n : ℕ). Framed n (((c .before .before .before .before .before .before .before .before .before .before .before .before .before .before .before .before .before .before .before .before .frame .last .1 .0)))) ((c .before .before .before .before .before .before .before .before .before .before .before .before .before .before .before .before .before .before .before .before .before .before .before .before .before .before .before .args .session)) ((c .before .before .before .before .before .before .before .before .before .before .before .before .before .before .before .before .before .before .before .before .before .before .before .before .before .before .before .args .flash .now)) ((c .before .before .before .before .before .before .before .before .before .before .before .before .before .before .before .before .before .before .before .before .before .before .before .before .before .before .before .args .sram .now)) ((c .before .before .before .before .before .before .before .before .before .before .before .before .before .before .before .before .before .before .before .before .before .before .before .before .before .before .before .args .usd .now)) (replicate 363 0) refl l ((c .before .before .before .before .before .before .before .before .before .before .before .before .before .take-frame .ensures)) ((c .before .before .before .before .before .before .before .before .before .before .before .before .before .before .before .before .before .before .before .before .before .before .before .before .before .before .before .args .at)) ((c .before .before .frames .result)) ((c .before .before .before .before .before .before .before .before .before .before .before .before .before .before .before .before .before .before .before .before .before .before .before .before .before .before .before .args .out .now)) (((c .before .before .frames .last .1 .0))) ((c .before .before .frames .ensures .0)) ((c .before .before .frames .ensures .2)))), omega (arith, ((c .before .before .frames .ensures .1)), k, f, o .long))))
+    returns)

@@ -12,21 +12,102 @@ use Rattle.answers.proofs.Telling.{nothing-told, power-told}
 use Rattle.answering.proofs.tell_line.Statement.{statement}
 use Rattle.answering.proofs.tell_line.Tie as tie
 
-pub tell-line-spec : {M : Type 1} → statement M
+sub-tell-bytes : tie.Need-sub-tell-bytes
+sub-tell-bytes c =
+    let start = c .before .before .before .before .before .before .before in
+    let b = bytes-line (start .args .line .now) (sym (start .pre .0) ∙ c .enum-told .given .1) in
+    omega (arith, b .0)
+
+part-tell-bytes-start : tie.Need-part-tell-bytes-start
+part-tell-bytes-start c =
+    let start = c .before .before .before .before .before .before .before in
+    let b = bytes-line (start .args .line .now) (sym (start .pre .0) ∙ c .enum-told .given .1) in
+    omega (arith, b .0)
+
+tell-bytes-requires : tie.Need-tell-bytes-requires
+tell-bytes-requires c κs =
+    let after-enum-told = c .before .before .before .before .before in
+    let start = after-enum-told .before .before .before .before .before .before .before in
+    let l = start .args .line .now in
+    let b = bytes-line l (sym (start .pre .0) ∙ after-enum-told .enum-told .given .1) in
+    rw (to-the-end 1 l) (b .1, simp length-drop (omega arith))
+
+sub-tell-frame : tie.Need-sub-tell-frame
+sub-tell-frame c =
+    let start = c .before .before .before .before .before .before .before in
+    let b = frame-line (start .args .line .now) (sym (start .pre .0) ∙ c .enum-told2 .given .1) in
+    omega (arith, b .0)
+
+part-tell-frame-start : tie.Need-part-tell-frame-start
+part-tell-frame-start c =
+    let start = c .before .before .before .before .before .before .before in
+    let b = frame-line (start .args .line .now) (sym (start .pre .0) ∙ c .enum-told2 .given .1) in
+    omega (arith, b .0)
+
+tell-frame-requires : tie.Need-tell-frame-requires
+tell-frame-requires c κs =
+    let after-enum-told2 = c .before .before .before .before .before in
+    let start = after-enum-told2 .before .before .before .before .before .before .before in
+    let l = start .args .line .now in
+    let b = frame-line l (sym (start .pre .0) ∙ after-enum-told2 .enum-told2 .given .1) in
+    rw (to-the-end 1 l) (b .1, simp length-drop (omega arith))
+
+returns : tie.Need-returns
+returns c =
+    let after-tell-bytes = c .before .before .before .before .before .before .before .before in
+    let after-enum-told = after-tell-bytes .before .before .before .before .before .before in
+    let start = after-enum-told .before .before .before .before .before .before .before in
+    let l = start .args .line .now in (
+      rw (after-enum-told .enum-told .given .1) (rw (to-the-end 1 l) at (after-tell-bytes .tell-bytes .ensures .0)),
+      omega (arith, rw (to-the-end 1 l, length-drop 1 l) at (after-tell-bytes .tell-bytes .ensures .1)),
+    )
+
+returns-2 : tie.Need-returns-2
+returns-2 c =
+    let after-tell-frame = c .before .before .before .before .before .before .before .before in
+    let after-enum-told2 = after-tell-frame .before .before .before .before .before .before in
+    let start = after-enum-told2 .before .before .before .before .before .before .before in
+    let l = start .args .line .now in (
+      rw (after-enum-told2 .enum-told2 .given .1) (rw (to-the-end 1 l) at (after-tell-frame .tell-frame .ensures .0)),
+      omega (arith, rw (to-the-end 1 l, length-drop 1 l) at (after-tell-frame .tell-frame .ensures .1)),
+    )
+
+returns-3 : tie.Need-returns-3
+returns-3 c =
+    let after-enum-told3 = c .before in
+    let start = after-enum-told3 .before .before .before .before .before .before .before in (
+      rw (
+        after-enum-told3 .enum-told3 .given .1,
+        power-told (stateOf (start .args .session) (start .args .flash .now) (start .args .sram .now) (start .args .usd .now)),
+        c .power-on .ensures .session,
+      ) (nothing-told (powered ((stateOf (start .args .session) (start .args .flash .now) (start .args .sram .now)
+          (start .args .usd .now)) .memories)) (start .args .at) (start .args .out .now)),
+      omega arith,
+    )
+
+returns-4 : tie.Need-returns-4
 unfolding tells
+returns-4 c =
+    let start = c .before .before .before .before .before .before .before in (
+      rw (c .enum-told4 .given .1) (nothing-told (stateOf (start .args .session) (start .args .flash .now) (start .args .sram .now)
+          (start .args .usd .now)) (start .args .at) (start .args .out .now)),
+      omega arith,
+    )
+
+pub tell-line-spec : {M : Type 1} → statement M
 tell-line-spec =
     tie.close
     (tie.spec
     (λ c. search needs)
-    (λ c. let b = bytes-line (c .before .before .before .before .before .before .before .args .line .now) (sym (c .before .before .before .before .before .before .before .pre .0) ∙ (c .enum-told .given .1)) in omega (arith, b .0))
-    (λ c. let b = bytes-line (c .before .before .before .before .before .before .before .args .line .now) (sym (c .before .before .before .before .before .before .before .pre .0) ∙ (c .enum-told .given .1)) in omega (arith, b .0))
+    sub-tell-bytes
+    part-tell-bytes-start
     (λ c. search needs)
-    (λ c κs. let l = (c .before .before .before .before .before .before .before .before .before .before .before .before .args .line .now) in let b = bytes-line l (sym (c .before .before .before .before .before .before .before .before .before .before .before .before .pre .0) ∙ (c .before .before .before .before .before .enum-told .given .1)) in rw (to-the-end 1 l) (b .1, simp length-drop (omega arith)))
+    tell-bytes-requires
     (λ c. search needs)
-    (λ c. let b = frame-line (c .before .before .before .before .before .before .before .args .line .now) (sym (c .before .before .before .before .before .before .before .pre .0) ∙ (c .enum-told2 .given .1)) in omega (arith, b .0))
-    (λ c. let b = frame-line (c .before .before .before .before .before .before .before .args .line .now) (sym (c .before .before .before .before .before .before .before .pre .0) ∙ (c .enum-told2 .given .1)) in omega (arith, b .0))
+    sub-tell-frame
+    part-tell-frame-start
     (λ c. search needs)
-    (λ c κs. let l = (c .before .before .before .before .before .before .before .before .before .before .before .before .args .line .now) in let b = frame-line l (sym (c .before .before .before .before .before .before .before .before .before .before .before .before .pre .0) ∙ (c .before .before .before .before .before .enum-told2 .given .1)) in rw (to-the-end 1 l) (b .1, simp length-drop (omega arith)))
+    tell-frame-requires
     (λ c. search needs)
     (λ c κs. search needs)
     (λ c. search needs)
@@ -34,11 +115,11 @@ tell-line-spec =
     (λ c. search needs)
     (λ c. search needs)
     (λ c. search needs)
-    (λ c. let l = (c .before .before .before .before .before .before .before .before .before .before .before .before .before .before .before .before .before .before .before .before .before .args .line .now) in (rw (c .before .before .before .before .before .before .before .before .before .before .before .before .before .before .enum-told .given .1) (rw (to-the-end 1 l) at (c .before .before .before .before .before .before .before .before .tell-bytes .ensures .0)), omega (arith, rw (to-the-end 1 l, length-drop 1 l) at (c .before .before .before .before .before .before .before .before .tell-bytes .ensures .1))))
+    returns
     (λ c. search needs)
     (λ c. search needs)
     (λ c. search needs)
     (λ c. search needs)
-    (λ c. let l = (c .before .before .before .before .before .before .before .before .before .before .before .before .before .before .before .before .before .before .before .before .before .args .line .now) in (rw (c .before .before .before .before .before .before .before .before .before .before .before .before .before .before .enum-told2 .given .1) (rw (to-the-end 1 l) at (c .before .before .before .before .before .before .before .before .tell-frame .ensures .0)), omega (arith, rw (to-the-end 1 l, length-drop 1 l) at (c .before .before .before .before .before .before .before .before .tell-frame .ensures .1))))
-    (λ c. (rw ((c .before .enum-told3 .given .1), power-told (stateOf (c .before .before .before .before .before .before .before .before .args .session) (c .before .before .before .before .before .before .before .before .args .flash .now) (c .before .before .before .before .before .before .before .before .args .sram .now) (c .before .before .before .before .before .before .before .before .args .usd .now)), (c .power-on .ensures .session)) (nothing-told (powered ((stateOf (c .before .before .before .before .before .before .before .before .args .session) (c .before .before .before .before .before .before .before .before .args .flash .now) (c .before .before .before .before .before .before .before .before .args .sram .now) (c .before .before .before .before .before .before .before .before .args .usd .now)) .memories)) (c .before .before .before .before .before .before .before .before .args .at) (c .before .before .before .before .before .before .before .before .args .out .now)), omega arith))
-    (λ c. (rw (c .enum-told4 .given .1) (nothing-told (stateOf (c .before .before .before .before .before .before .before .args .session) (c .before .before .before .before .before .before .before .args .flash .now) (c .before .before .before .before .before .before .before .args .sram .now) (c .before .before .before .before .before .before .before .args .usd .now)) (c .before .before .before .before .before .before .before .args .at) (c .before .before .before .before .before .before .before .args .out .now)), omega arith)))
+    returns-2
+    returns-3
+    returns-4)

@@ -8,6 +8,14 @@ use lib.ListN.{length-take}
 use Rattle.calls.proofs.turn.Statement.{statement}
 use Rattle.calls.proofs.turn.Tie as tie
 
+bytes-requires : tie.Need-bytes-requires
+bytes-requires c κs =
+    let else2 = c .before .before .before in
+    let after-are-fields = else2 .before in (
+      subst T (sym (sym (after-are-fields .are-fields .ensures) ∙ not-false (after-are-fields .are-fields .result) (else2 .if2 .left))) tt,
+      rw length-take (omega arith),
+    )
+
 pub turn-spec : {M : Type 1} → statement M
 turn-spec =
     tie.close
@@ -24,7 +32,7 @@ turn-spec =
     (λ c. search needs)
     (λ c. search needs)
     (λ c. search needs)
-    (λ c κs. (subst T (sym (sym ((c .before .before .before .before .are-fields .ensures)) ∙ not-false ((c .before .before .before .before .are-fields .result)) ((c .before .before .before .if2 .left)))) tt, rw length-take (omega arith)))
+    bytes-requires
     (λ c. search needs)
     (λ c κs. search needs)
     (λ c. search needs))

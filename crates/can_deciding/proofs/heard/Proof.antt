@@ -10,6 +10,33 @@ use Rattle.can.proofs.Steps.{counted, numbered}
 use Rattle.can_deciding.proofs.heard.Statement.{statement}
 use Rattle.can_deciding.proofs.heard.Tie as tie
 
+write-frame-requires : tie.Need-write-frame-requires
+write-frame-requires c κs =
+    let after-of = c .before .before in
+    let start = after-of .before .before .before .before in
+    let h =
+    counted (start .args .expected) (subst (λ (s : Step). T (expects s (start .args .expected))) (c .enum-told2 .given .1)
+    (subst (λ (s : Step). T (expects s (start .args .expected))) (sym (after-of .of .ensures)) (start .pre .1))) in
+    (omega arith, h .1, omega arith, omega arith)
+
+erase-frame-requires : tie.Need-erase-frame-requires
+erase-frame-requires c κs =
+    let after-of = c .before .before in
+    let start = after-of .before .before .before .before in
+    let h =
+    numbered (start .args .expected) (subst (λ (s : Step). T (expects s (start .args .expected))) (c .enum-told3 .given .1)
+    (subst (λ (s : Step). T (expects s (start .args .expected))) (sym (after-of .of .ensures)) (start .pre .1))) in
+    (omega arith, h .1, omega arith, omega arith, omega arith)
+
+protect-frame-requires : tie.Need-protect-frame-requires
+protect-frame-requires c κs =
+    let after-of = c .before .before in
+    let start = after-of .before .before .before .before in
+    let h =
+    counted (start .args .expected) (subst (λ (s : Step). T (expects s (start .args .expected))) (c .enum-told4 .given .1)
+    (subst (λ (s : Step). T (expects s (start .args .expected))) (sym (after-of .of .ensures)) (start .pre .1))) in
+    (omega arith, h .1, omega arith, omega arith)
+
 pub heard-spec : {M : Type 1} → statement M
 unfolding gathering unlessExtra decided
 heard-spec =
@@ -19,11 +46,11 @@ heard-spec =
     (λ c. search needs)
     (λ c κs. search needs)
     (λ c. search needs)
-    (λ c κs. let h = counted (c .before .before .before .before .before .before .args .expected) (subst (λ (s : Step). T (expects s (c .before .before .before .before .before .before .args .expected))) (c .enum-told2 .given .1) (subst (λ (s : Step). T (expects s (c .before .before .before .before .before .before .args .expected))) (sym (c .before .before .of .ensures)) (c .before .before .before .before .before .before .pre .1))) in (omega arith, h .1, omega arith, omega arith))
+    write-frame-requires
     (λ c. search needs)
-    (λ c κs. let h = numbered (c .before .before .before .before .before .before .args .expected) (subst (λ (s : Step). T (expects s (c .before .before .before .before .before .before .args .expected))) (c .enum-told3 .given .1) (subst (λ (s : Step). T (expects s (c .before .before .before .before .before .before .args .expected))) (sym (c .before .before .of .ensures)) (c .before .before .before .before .before .before .pre .1))) in (omega arith, h .1, omega arith, omega arith, omega arith))
+    erase-frame-requires
     (λ c. search needs)
-    (λ c κs. let h = counted (c .before .before .before .before .before .before .args .expected) (subst (λ (s : Step). T (expects s (c .before .before .before .before .before .before .args .expected))) (c .enum-told4 .given .1) (subst (λ (s : Step). T (expects s (c .before .before .before .before .before .before .args .expected))) (sym (c .before .before .of .ensures)) (c .before .before .before .before .before .before .pre .1))) in (omega arith, h .1, omega arith, omega arith))
+    protect-frame-requires
     (λ c. rw (← c .before .before .before .of .ensures, c .before .enum-told .given .1) (c .command-frame .ensures))
     (λ c. rw (← c .before .before .before .of .ensures, c .before .enum-told2 .given .1) (c .write-frame .ensures))
     (λ c. rw (← c .before .before .before .of .ensures, c .before .enum-told3 .given .1) (c .erase-frame .ensures))

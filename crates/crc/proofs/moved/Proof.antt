@@ -16,6 +16,24 @@ Inv-loop from table₀ i₀ table i = (i ≤ 256) × (length table ≡ 256) × (
 abbrev μ-loop : tie.MeasureT-loop
 μ-loop from table₀ i₀ table i = 256 - i
 
+loop-again : tie.Need-loop-again Inv-loop μ-loop
+loop-again c =
+    let at-loop = c .before .before .before in
+    let start = at-loop .before .before in (
+      omega arith,
+      length-set (at-loop .loop .table) (at-loop .loop .i) _ ∙ at-loop .loop .inv .1,
+      filled (λ j. shiftedBy 8 (getD (start .args .from .now) j 0)) (at-loop .loop .table) (at-loop .loop .i) _ (omega arith)
+          (at-loop .loop .inv .2) (c .eight .ensures),
+    )
+
+returns : tie.Need-returns Inv-loop μ-loop
+returns c =
+    let at-loop = c .before in
+    λ n t. record {
+      size = (at-loop .loop .inv .1);
+      entry = λ j h. (at-loop .loop .inv .2) j (omega arith) ∙ ap (λ (x : ℕ). shiftedBy 8 x) (t .entry j h) ∙ moved-then 8 n (j * 2 ^ 24);
+    }
+
 pub moved-spec : {M : Type 1} → statement M
 moved-spec =
     tie.close
@@ -30,5 +48,5 @@ moved-spec =
     (λ c. omega arith)
     (λ c. omega arith)
     (λ c. omega arith)
-    (λ c. (omega arith, length-set (c .before .before .before .loop .table) (c .before .before .before .loop .i) _ ∙ (c .before .before .before .loop .inv .1), filled (λ j. shiftedBy 8 (getD (c .before .before .before .before .before .args .from .now) j 0)) (c .before .before .before .loop .table) (c .before .before .before .loop .i) _ (omega arith) (c .before .before .before .loop .inv .2) (c .eight .ensures)))
-    (λ c. λ n t. record { size = (c .before .loop .inv .1); entry = λ j h. (c .before .loop .inv .2) j (omega arith) ∙ ap (λ (x : ℕ). shiftedBy 8 x) (t .entry j h) ∙ moved-then 8 n (j * 2 ^ 24) }))
+    loop-again
+    returns)

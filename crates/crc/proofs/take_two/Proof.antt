@@ -9,6 +9,16 @@ use Rattle.crc.proofs.Tables.{two-fed}
 use Rattle.crc.proofs.take_two.Statement.{statement}
 use Rattle.crc.proofs.take_two.Tie as tie
 
+returns : tie.Need-returns
+returns c =
+    let after-with-two = c .before .before in
+    let start = after-with-two .before .before .before in
+    let x = after-with-two .with-two .result in
+    ap₂ bitXor ((start .pre .1 .entry) (x / 2 ^ 24) (omega arith))
+    (ap₂ bitXor (ap (λ (k : ℕ). getD (start .args .one .now) k 0) (and-mask (x / 2 ^ 16) 8) ∙ (start .pre .0 .entry) (x / 2 ^ 16 % 256)
+    (omega arith)) refl) ∙ sym (two-fed (start .args .register) (start .args .first) (start .args .second) (omega arith) (omega arith)
+    (omega arith) x (after-with-two .with-two .ensures))
+
 pub take-two-spec : {M : Type 1} → statement M
 take-two-spec =
     tie.close
@@ -20,4 +30,4 @@ take-two-spec =
     (λ c. search needs)
     (λ c. omega (arith, and-mask ((c .before .with-two .result) / 2 ^ 16) 8))
     (λ c. omega (arith, and-mask ((c .before .before .with-two .result) / 2 ^ 16) 8))
-    (λ c. let x = (c .before .before .with-two .result) in ap₂ bitXor ((c .before .before .before .before .before .pre .1 .entry) (x / 2 ^ 24) (omega arith)) (ap₂ bitXor (ap (λ (k : ℕ). getD (c .before .before .before .before .before .args .one .now) k 0) (and-mask (x / 2 ^ 16) 8) ∙ (c .before .before .before .before .before .pre .0 .entry) (x / 2 ^ 16 % 256) (omega arith)) refl) ∙ sym (two-fed (c .before .before .before .before .before .args .register) (c .before .before .before .before .before .args .first) (c .before .before .before .before .before .args .second) (omega arith) (omega arith) (omega arith) x (c .before .before .with-two .ensures))))
+    returns)

@@ -13,6 +13,14 @@ Inv-loop table₀ i₀ table i = (i ≤ 256) × (length table ≡ 256) × ((j : 
 abbrev μ-loop : tie.MeasureT-loop
 μ-loop table₀ i₀ table i = 256 - i
 
+loop-again : tie.Need-loop-again Inv-loop μ-loop
+loop-again c =
+    let at-loop = c .before in (
+      omega arith,
+      length-set (at-loop .loop .table) (at-loop .loop .i) _ ∙ at-loop .loop .inv .1,
+      filled (λ j. j * 2 ^ 24) (at-loop .loop .table) (at-loop .loop .i) _ (omega arith) (at-loop .loop .inv .2) (omega arith),
+    )
+
 pub unmoved-spec : {M : Type 1} → statement M
 unmoved-spec =
     tie.close
@@ -25,5 +33,5 @@ unmoved-spec =
     (λ c. omega arith)
     (λ c. omega arith)
     (λ c. omega arith)
-    (λ c. (omega arith, length-set (c .before .loop .table) (c .before .loop .i) _ ∙ (c .before .loop .inv .1), filled (λ j. j * 2 ^ 24) (c .before .loop .table) (c .before .loop .i) _ (omega arith) (c .before .loop .inv .2) (omega arith)))
+    loop-again
     (λ c. record { size = (c .before .loop .inv .1); entry = λ j h. (c .before .loop .inv .2) j (omega arith) }))

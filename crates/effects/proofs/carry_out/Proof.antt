@@ -9,6 +9,70 @@ use Rattle.effects.proofs.Fits.{write-fits, erase-fits, protect-fits}
 use Rattle.effects.proofs.carry_out.Statement.{statement}
 use Rattle.effects.proofs.carry_out.Tie as tie
 
+write-requires : tie.Need-write-requires
+write-requires c κs =
+    let after-change = c .before .before .before .before in
+    let start = after-change .before .before .before .before .before in
+    let h = write-fits (start .args .change) (start .args .staged .now) (start .pre .1) _ _ _ (after-change .change .given .1) in
+    (start .pre .0, h .0, h .1)
+
+erase-sectors-requires : tie.Need-erase-sectors-requires
+erase-sectors-requires c κs =
+    let after-change2 = c .before .before .before in
+    let start = after-change2 .before .before .before .before .before in
+    let h = erase-fits (start .args .change) (start .args .staged .now) (start .pre .1) _ (after-change2 .change2 .given .1) in (
+      proper-length (memories (start .args .flash .now) (start .args .sram .now) (start .args .usd .now)) (start .pre .0) Flash,
+      h .0,
+      omega arith,
+      h .1,
+    )
+
+protect-only-requires : tie.Need-protect-only-requires
+protect-only-requires c κs =
+    let after-change3 = c .before .before .before in
+    let start = after-change3 .before .before .before .before .before in
+    let h = protect-fits (start .args .change) (start .args .staged .now) (start .pre .1) _ (after-change3 .change3 .given .1) in (
+      proper-length (memories (start .args .flash .now) (start .args .sram .now) (start .args .usd .now)) (start .pre .0) Usd,
+      omega arith,
+      h .1,
+    )
+
+release-requires : tie.Need-release-requires
+release-requires c κs =
+    let start = c .before .before .before .before .before .before in
+    proper-length (memories (start .args .flash .now) (start .args .sram .now) (start .args .usd .now)) (start .pre .0) Usd
+
+lock-requires : tie.Need-lock-requires
+lock-requires c κs =
+    let start = c .before .before .before .before .before .before in
+    proper-length (memories (start .args .flash .now) (start .args .sram .now) (start .args .usd .now)) (start .pre .0) Usd
+
+returns-2 : tie.Need-returns-2
+unfolding effect erasedAll
+returns-2 c =
+    let after-write = c .before .before .before .before .before .before in
+    let after-change = after-write .before .before .before .before .before in
+    rw (after-change .change .given .1) (after-write .write .ensures)
+
+returns-3 : tie.Need-returns-3
+unfolding effect erasedAll
+returns-3 c =
+    let after-fill-all = c .before .before in
+    let after-enum-told2 = after-fill-all .before .before in
+    let start = after-enum-told2 .before .before .before .before .before in
+    rw (
+      after-enum-told2 .enum-told2 .given .1,
+      after-fill-all .fill-all .ensures,
+      proper-length (memories (start .args .flash .now) (start .args .sram .now) (start .args .usd .now)) (start .pre .0) Flash,
+    )
+
+returns-8 : tie.Need-returns-8
+unfolding effect erasedAll
+returns-8 c =
+    let after-unlock = c .before .before .before .before .before .before in
+    let after-enum-told5 = after-unlock .before .before .before .before in
+    rw (after-enum-told5 .enum-told5 .given .1) (after-unlock .unlock .ensures)
+
 pub carry-out-spec : {M : Type 1} → statement M
 unfolding effect erasedAll
 carry-out-spec =
@@ -16,26 +80,26 @@ carry-out-spec =
     (tie.spec
     (λ c. search needs)
     (λ c. search needs)
-    (λ c κs. let h = write-fits (c .before .before .before .before .before .before .before .before .before .args .change) (c .before .before .before .before .before .before .before .before .before .args .staged .now) (c .before .before .before .before .before .before .before .before .before .pre .1) _ _ _ (c .before .before .before .before .change .given .1) in (c .before .before .before .before .before .before .before .before .before .pre .0, h .0, h .1))
+    write-requires
     (λ c. search needs)
     (λ c κs. search needs)
     (λ c. search needs)
-    (λ c κs. let h = erase-fits (c .before .before .before .before .before .before .before .before .args .change) (c .before .before .before .before .before .before .before .before .args .staged .now) (c .before .before .before .before .before .before .before .before .pre .1) _ (c .before .before .before .change2 .given .1) in (proper-length (memories (c .before .before .before .before .before .before .before .before .args .flash .now) (c .before .before .before .before .before .before .before .before .args .sram .now) (c .before .before .before .before .before .before .before .before .args .usd .now)) (c .before .before .before .before .before .before .before .before .pre .0) Flash, h .0, omega arith, h .1))
+    erase-sectors-requires
     (λ c. search needs)
-    (λ c κs. let h = protect-fits (c .before .before .before .before .before .before .before .before .args .change) (c .before .before .before .before .before .before .before .before .args .staged .now) (c .before .before .before .before .before .before .before .before .pre .1) _ (c .before .before .before .change3 .given .1) in (proper-length (memories (c .before .before .before .before .before .before .before .before .args .flash .now) (c .before .before .before .before .before .before .before .before .args .sram .now) (c .before .before .before .before .before .before .before .before .args .usd .now)) (c .before .before .before .before .before .before .before .before .pre .0) Usd, omega arith, h .1))
+    protect-only-requires
     (λ c. search needs)
-    (λ c κs. proper-length (memories (c .before .before .before .before .before .before .args .flash .now) (c .before .before .before .before .before .before .args .sram .now) (c .before .before .before .before .before .before .args .usd .now)) (c .before .before .before .before .before .before .pre .0) Usd)
+    release-requires
     (λ c. search needs)
-    (λ c κs. proper-length (memories (c .before .before .before .before .before .before .args .flash .now) (c .before .before .before .before .before .before .args .sram .now) (c .before .before .before .before .before .before .args .usd .now)) (c .before .before .before .before .before .before .pre .0) Usd)
+    lock-requires
     (λ c. search needs)
     (λ c κs. search needs)
     (λ c. rw (c .enum-told .given .1))
     (λ c. search needs)
     (λ c. search needs)
     (λ c. search needs)
-    (λ c. rw (c .before .before .before .before .before .before .before .before .before .before .before .change .given .1) (c .before .before .before .before .before .before .write .ensures))
+    returns-2
     (λ c. search needs)
-    (λ c. rw (c .before .before .before .before .enum-told2 .given .1, c .before .before .fill-all .ensures, proper-length (memories (c .before .before .before .before .before .before .before .before .before .args .flash .now) (c .before .before .before .before .before .before .before .before .before .args .sram .now) (c .before .before .before .before .before .before .before .before .before .args .usd .now)) (c .before .before .before .before .before .before .before .before .before .pre .0) Flash))
+    returns-3
     (λ c. search needs)
     (λ c. rw (c .before .before .before .before .before .before .change2 .given .1, c .before .before .erase-sectors .ensures))
     (λ c. search needs)
@@ -47,4 +111,4 @@ carry-out-spec =
     (λ c. search needs)
     (λ c. search needs)
     (λ c. search needs)
-    (λ c. rw (c .before .before .before .before .before .before .before .before .before .before .enum-told5 .given .1) (c .before .before .before .before .before .before .unlock .ensures)))
+    returns-8)

@@ -15,10 +15,53 @@ use Rattle.effects.proofs.erase_sectors.Statement.{statement}
 use Rattle.effects.proofs.erase_sectors.Tie as tie
 
 abbrev Inv-loop : tie.InvT-loop
-Inv-loop flash₀ staged x end j₀ flash j = (j ≤ end) × (j % 2 ≡ 0) × (length flash ≡ length flash₀) × T (all isSector (numbered (slice j end staged))) × (erased flash (numbered (slice j end staged)) ≡ erased flash₀ (numbered (take end staged)))
+Inv-loop flash₀ staged x end j₀ flash j =
+    (j ≤ end)
+    × (j % 2 ≡ 0)
+    × (length flash ≡ length flash₀)
+    × T (all isSector (numbered (slice j end staged)))
+    × (erased flash (numbered (slice j end staged)) ≡ erased flash₀ (numbered (take end staged)))
 
 abbrev μ-loop : tie.MeasureT-loop
 μ-loop flash₀ staged x end j₀ flash j = end - j
+
+erase-sector-requires : tie.Need-erase-sector-requires Inv-loop μ-loop
+erase-sector-requires c κs =
+    let after-number2 = c .before in
+    let at-loop = after-number2 .before .before .before .before in
+    let start = at-loop .before .before .before in
+    let s = start .args .staged .now in
+    let m = 2 * start .args .x in
+    let j = at-loop .loop .j in
+    let k = after-number2 .number2 .result in
+    let st = all-numbered s j m k (after-number2 .number2 .ensures) (omega arith) (omega arith) in
+    (omega arith, both-left (isSector (sector k)) (all isSector (numbered (slice (j + 2) m s))) (subst T st (at-loop .loop .inv .3)))
+
+loop-again : tie.Need-loop-again Inv-loop μ-loop
+loop-again c =
+    let after-erase-sector = c .before .before in
+    let after-number2 = after-erase-sector .before .before in
+    let at-loop = after-number2 .before .before .before .before in
+    let start = at-loop .before .before .before in
+    let s = start .args .staged .now in
+    let m = 2 * start .args .x in
+    let j = at-loop .loop .j in
+    let k = after-number2 .number2 .result in
+    let st = all-numbered s j m k (after-number2 .number2 .ensures) (omega arith) (omega arith) in
+    let er = erased-numbered s j m k (after-number2 .number2 .ensures) (omega arith) (omega arith) (at-loop .loop .flash) in (
+      omega arith,
+      omega arith,
+      omega arith,
+      both-right (isSector (sector k)) (all isSector (numbered (slice (j + 2) m s))) (subst T st (at-loop .loop .inv .3)),
+      rw (after-erase-sector .erase-sector .ensures) (sym er ∙ at-loop .loop .inv .4),
+    )
+
+returns : tie.Need-returns Inv-loop μ-loop
+returns c =
+    let at-loop = c .before in
+    let start = at-loop .before .before .before in
+    let e : at-loop .loop .j ≡ 2 * start .args .x = omega arith in
+    rw (e, slice-empty) at (at-loop .loop .inv .4)
 
 pub erase-sectors-spec : {M : Type 1} → statement M
 erase-sectors-spec =
@@ -32,9 +75,9 @@ erase-sectors-spec =
     (λ c. omega arith)
     (λ c. omega arith)
     (λ c κs. search needs)
-    (λ c κs. let s = c .before .before .before .before .before .before .before .before .args .staged .now in let m = 2 * c .before .before .before .before .before .before .before .before .args .x in let j = c .before .before .before .before .before .loop .j in let k = c .before .number2 .result in let st = all-numbered s j m k (c .before .number2 .ensures) (omega arith) (omega arith) in (omega arith, both-left (isSector (sector k)) (all isSector (numbered (slice (j + 2) m s))) (subst T st (c .before .before .before .before .before .loop .inv .3))))
+    erase-sector-requires
     (λ c. omega arith)
     (λ c. omega arith)
-    (λ c. let s = c .before .before .before .before .before .before .before .before .before .before .before .args .staged .now in let m = 2 * c .before .before .before .before .before .before .before .before .before .before .before .args .x in let j = c .before .before .before .before .before .before .before .before .loop .j in let k = c .before .before .before .before .number2 .result in let st = all-numbered s j m k (c .before .before .before .before .number2 .ensures) (omega arith) (omega arith) in let er = erased-numbered s j m k (c .before .before .before .before .number2 .ensures) (omega arith) (omega arith) (c .before .before .before .before .before .before .before .before .loop .flash) in (omega arith, omega arith, omega arith, both-right (isSector (sector k)) (all isSector (numbered (slice (j + 2) m s))) (subst T st (c .before .before .before .before .before .before .before .before .loop .inv .3)), rw (c .before .before .erase-sector .ensures) (sym er ∙ c .before .before .before .before .before .before .before .before .loop .inv .4)))
+    loop-again
     (λ c. omega arith)
-    (λ c. let e : c .before .loop .j ≡ 2 * c .before .before .before .before .args .x = omega arith in rw (e, slice-empty) at (c .before .loop .inv .4)))
+    returns)

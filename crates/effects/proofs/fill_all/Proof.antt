@@ -6,10 +6,17 @@ use Rattle.words.proofs.Over.{put-all}
 use Rattle.effects.proofs.fill_all.Statement.{statement}
 use Rattle.effects.proofs.fill_all.Tie as tie
 
+returns : tie.Need-returns
+returns c =
+    let after-fill = c .before .before in
+    let start = after-fill .before .before .before in
+    after-fill .fill .ensures ∙ let m = start .args .memory .now in put-all m (replicate (length m) (start .args .byte))
+    (length-replicate (length m) (start .args .byte))
+
 pub fill-all-spec : {M : Type 1} → statement M
 fill-all-spec =
     tie.close
     (tie.spec
     (λ c κs. search needs)
     (λ c. search needs)
-    (λ c. c .before .before .fill .ensures ∙ let m = c .before .before .before .before .before .args .memory .now in put-all m (replicate (length m) (c .before .before .before .before .before .args .byte)) (length-replicate (length m) (c .before .before .before .before .before .args .byte))))
+    returns)

@@ -15,13 +15,59 @@ use Rattle.effects.proofs.protect_only.Statement.{statement}
 use Rattle.effects.proofs.protect_only.Tie as tie
 
 abbrev Inv-loop : tie.InvT-loop
-Inv-loop usd₀ staged x i₀ usd i = (i ≤ x) × (length usd ≡ length usd₀) × T (all isSector (indexed (slice i x staged))) × (allProtected usd (indexed (slice i x staged)) ≡ allProtected usd₀ (indexed (take x staged)))
+Inv-loop usd₀ staged x i₀ usd i =
+    (i ≤ x)
+    × (length usd ≡ length usd₀)
+    × T (all isSector (indexed (slice i x staged)))
+    × (allProtected usd (indexed (slice i x staged)) ≡ allProtected usd₀ (indexed (take x staged)))
 
 abbrev μ-loop : tie.MeasureT-loop
 μ-loop usd₀ staged x i₀ usd i = x - i
 
-pub protect-only-spec : {M : Type 1} → statement M
+cast-t14 : tie.Need-cast-t14 Inv-loop μ-loop
+cast-t14 c =
+    let at-loop = c .before .before .before in
+    let after-shared-slice-known = at-loop .before .before .before .before .before in
+    omega (arith, after-shared-slice-known .shared-slice-known .given (at-loop .loop .i))
+
+protect-also-requires : tie.Need-protect-also-requires Inv-loop μ-loop
+protect-also-requires c κs =
+    let at-loop = c .before .before .before in
+    let start = at-loop .before .before .before .before .before .before .before in
+    let s = start .args .staged .now in
+    let n = start .args .x in
+    let i = at-loop .loop .i in (
+      omega arith,
+      both-left (isSector (sector (getD s i 0))) (all isSector (indexed (slice (i + 1) n s)))
+          (subst T (all-indexed s i n (omega arith) (omega arith)) (at-loop .loop .inv .2)),
+    )
+
+loop-again : tie.Need-loop-again Inv-loop μ-loop
+loop-again c =
+    let after-protect-also = c .before .before in
+    let at-loop = after-protect-also .before .before .before .before in
+    let start = at-loop .before .before .before .before .before .before .before in
+    let s = start .args .staged .now in
+    let n = start .args .x in
+    let i = at-loop .loop .i in (
+      omega arith,
+      omega arith,
+      both-right (isSector (sector (getD s i 0))) (all isSector (indexed (slice (i + 1) n s)))
+          (subst T (all-indexed s i n (omega arith) (omega arith)) (at-loop .loop .inv .2)),
+      rw (after-protect-also .protect-also .ensures) (sym (protected-indexed s i n (omega arith) (omega arith) (at-loop .loop .usd)) ∙
+          at-loop .loop .inv .3),
+    )
+
+returns : tie.Need-returns Inv-loop μ-loop
 unfolding onlyProtected
+returns c =
+    let at-loop = c .before in
+    let after-release = at-loop .before .before .before in
+    let start = after-release .before .before .before .before in
+    let e : at-loop .loop .i ≡ start .args .x = omega arith in
+    rw (← after-release .release .ensures) (rw (e, slice-empty) at (at-loop .loop .inv .3))
+
+pub protect-only-spec : {M : Type 1} → statement M
 protect-only-spec =
     tie.close
     (tie.spec
@@ -30,10 +76,10 @@ protect-only-spec =
     (λ c κs. search needs)
     (λ c. (omega arith, refl, c .before .before .before .before .before .before .pre .2, refl))
     (λ c. omega arith)
-    (λ c. omega (arith, c .before .before .before .before .before .before .before .before .shared-slice-known .given (c .before .before .before .loop .i)))
-    (λ c κs. let s = c .before .before .before .before .before .before .before .before .before .before .args .staged .now in let n = c .before .before .before .before .before .before .before .before .before .before .args .x in let i = c .before .before .before .loop .i in (omega arith, both-left (isSector (sector (getD s i 0))) (all isSector (indexed (slice (i + 1) n s))) (subst T (all-indexed s i n (omega arith) (omega arith)) (c .before .before .before .loop .inv .2))))
+    cast-t14
+    protect-also-requires
     (λ c. omega arith)
     (λ c. omega arith)
-    (λ c. let s = c .before .before .before .before .before .before .before .before .before .before .before .before .before .args .staged .now in let n = c .before .before .before .before .before .before .before .before .before .before .before .before .before .args .x in let i = c .before .before .before .before .before .before .loop .i in (omega arith, omega arith, both-right (isSector (sector (getD s i 0))) (all isSector (indexed (slice (i + 1) n s))) (subst T (all-indexed s i n (omega arith) (omega arith)) (c .before .before .before .before .before .before .loop .inv .2)), rw (c .before .before .protect-also .ensures) (sym (protected-indexed s i n (omega arith) (omega arith) (c .before .before .before .before .before .before .loop .usd)) ∙ c .before .before .before .before .before .before .loop .inv .3)))
+    loop-again
     (λ c. omega arith)
-    (λ c. let e : c .before .loop .i ≡ c .before .before .before .before .before .before .before .before .args .x = omega arith in rw (← c .before .before .before .before .release .ensures) (rw (e, slice-empty) at (c .before .loop .inv .3))))
+    returns)

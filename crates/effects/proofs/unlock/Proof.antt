@@ -9,18 +9,46 @@ use Rattle.memories.proofs.Memories.{proper-length}
 use Rattle.effects.proofs.unlock.Statement.{statement}
 use Rattle.effects.proofs.unlock.Tie as tie
 
+protection-on-requires : tie.Need-protection-on-requires
+protection-on-requires c κs =
+    let start = c .before .before .before .before in
+    proper-length (memories (start .args .flash .now) (start .args .sram .now) (start .args .usd .now)) (start .pre) Usd
+
+slice-write-usd : tie.Need-slice-write-usd
+slice-write-usd c =
+    let start = c .before .before .before .before .before .before .before .before .before .before .before .before .before .before in
+    let l = proper-length (memories (start .args .flash .now) (start .args .sram .now) (start .args .usd .now)) (start .pre) Usd in
+    omega arith
+
+returns : tie.Need-returns
+unfolding effect wiped erasedAll
+returns c =
+    let after-fill-all2 = c .before .before in
+    let after-fill-all = after-fill-all2 .before .before .before .before in
+    let then1 = after-fill-all .before .before in
+    let after-protection-on = then1 .before in
+    let start = after-protection-on .before .before .before .before .before in
+    let m = memories (start .args .flash .now) (start .args .sram .now) (start .args .usd .now) in
+    rw (
+      sym (after-protection-on .protection-on .ensures) ∙ then1 .if1 .taken,
+      after-fill-all .fill-all .ensures,
+      after-fill-all2 .fill-all2 .ensures,
+      proper-length m (start .pre) Flash,
+      proper-length m (start .pre) Sram,
+    )
+
 pub unlock-spec : {M : Type 1} → statement M
 unfolding effect wiped erasedAll
 unlock-spec =
     tie.close
     (tie.spec
-    (λ c κs. proper-length (memories (c .before .before .before .before .args .flash .now) (c .before .before .before .before .args .sram .now) (c .before .before .before .before .args .usd .now)) (c .before .before .before .before .pre) Usd)
+    protection-on-requires
     (λ c κs. search needs)
     (λ c κs. search needs)
-    (λ c. let l = proper-length (memories (c .before .before .before .before .before .before .before .before .before .before .before .before .before .before .args .flash .now) (c .before .before .before .before .before .before .before .before .before .before .before .before .before .before .args .sram .now) (c .before .before .before .before .before .before .before .before .before .before .before .before .before .before .args .usd .now)) (c .before .before .before .before .before .before .before .before .before .before .before .before .before .before .pre) Usd in omega arith)
+    slice-write-usd
     (λ c. search needs)
     (λ c. search needs)
     (λ c. search needs)
-    (λ c. let m = memories (c .before .before .before .before .before .before .before .before .before .before .before .before .before .before .args .flash .now) (c .before .before .before .before .before .before .before .before .before .before .before .before .before .before .args .sram .now) (c .before .before .before .before .before .before .before .before .before .before .before .before .before .before .args .usd .now) in rw (sym (c .before .before .before .before .before .before .before .before .before .protection-on .ensures) ∙ c .before .before .before .before .before .before .before .before .if1 .taken, c .before .before .before .before .before .before .fill-all .ensures, c .before .before .fill-all2 .ensures, proper-length m (c .before .before .before .before .before .before .before .before .before .before .before .before .before .before .pre) Flash, proper-length m (c .before .before .before .before .before .before .before .before .before .before .before .before .before .before .pre) Sram))
+    returns
     (λ c. search needs)
     (λ c. rw (sym (c .before .protection-on .ensures) ∙ c .if1 .left)))

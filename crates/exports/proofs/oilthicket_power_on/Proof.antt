@@ -6,6 +6,17 @@ use Rattle.lent.specs.Sessions.{sessionBytes}
 use Rattle.exports.proofs.oilthicket_power_on.Statement.{statement}
 use Rattle.exports.proofs.oilthicket_power_on.Tie as tie
 
+returns-2 : tie.Need-returns-2
+returns-2 c =
+    let after-write = c .before .before in
+    let after-power-on = after-write .before .before in
+    let else1 = after-power-on .before in
+    record {
+      number = rw (eq-eqb _ 280 (else1 .if1 .left));
+      session = rw (eq-eqb _ 280 (else1 .if1 .left))
+          (after-write .write .ensures .0 ∙ ap sessionBytes (after-power-on .power-on .ensures .session));
+    }
+
 pub oilthicket-power-on-spec : {M : Type 1} → statement M
 oilthicket-power-on-spec =
     tie.close
@@ -14,4 +25,4 @@ oilthicket-power-on-spec =
     (λ c κs. search needs)
     (λ c κs. search needs)
     (λ c. search needs)
-    (λ c. record { number = rw (eq-eqb _ 280 (c .before .before .before .before .before .if1 .left)); session = rw (eq-eqb _ 280 (c .before .before .before .before .before .if1 .left)) ((c .before .before .write .ensures .0) ∙ ap sessionBytes (c .before .before .before .before .power-on .ensures .session)) }))
+    returns-2)

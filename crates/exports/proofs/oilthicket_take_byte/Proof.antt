@@ -5,16 +5,36 @@ use Rattle.exports.proofs.Takes.{accepted-length, handed-on}
 use Rattle.exports.proofs.oilthicket_take_byte.Statement.{statement}
 use Rattle.exports.proofs.oilthicket_take_byte.Tie as tie
 
+hand-on-requires : tie.Need-hand-on-requires
+hand-on-requires c κs =
+    let after-take-byte = c .before .before .before .before .before .before .before .before .before in
+    let after-read = after-take-byte .before .before .before .before .before in
+    let start = after-read .before .before .before .before .before .before .before in
+    accepted-length (givenByte (after-read .read .result) (start .args .byte) (start .args .flash .now) (start .args .sram .now)
+    (start .args .usd .now) (start .args .buffer .now)) (start .args .session .now) (after-read .read .ensures) tt
+    (after-take-byte .take-byte .ensures)
+
+returns : tie.Need-returns
+returns c =
+    let after-hand-on = c .before .before in
+    let after-take-byte = after-hand-on .before .before .before .before .before .before .before .before .before .before in
+    let after-read = after-take-byte .before .before .before .before .before in
+    let start = after-read .before .before .before .before .before .before .before in
+    rw (← after-read .read .ensures, after-hand-on .hand-on .ensures .0)
+    (handed-on (givenByte (after-read .read .result) (start .args .byte) (start .args .flash .now) (start .args .sram .now)
+    (start .args .usd .now) (start .args .buffer .now)) (start .args .session .now) (after-read .read .ensures) tt
+    (after-take-byte .take-byte .ensures) (after-hand-on .hand-on .ensures .1))
+
 pub oilthicket-take-byte-spec : {M : Type 1} → statement M
 oilthicket-take-byte-spec =
     tie.close
     (tie.spec
     (λ c κs. search needs)
     (λ c κs. search needs)
-    (λ c κs. accepted-length (givenByte (c .before .before .before .before .before .before .before .before .before .before .before .before .before .before .read .result) (c .before .before .before .before .before .before .before .before .before .before .before .before .before .before .before .before .before .before .before .before .before .args .byte) (c .before .before .before .before .before .before .before .before .before .before .before .before .before .before .before .before .before .before .before .before .before .args .flash .now) (c .before .before .before .before .before .before .before .before .before .before .before .before .before .before .before .before .before .before .before .before .before .args .sram .now) (c .before .before .before .before .before .before .before .before .before .before .before .before .before .before .before .before .before .before .before .before .before .args .usd .now) (c .before .before .before .before .before .before .before .before .before .before .before .before .before .before .before .before .before .before .before .before .before .args .buffer .now)) (c .before .before .before .before .before .before .before .before .before .before .before .before .before .before .before .before .before .before .before .before .before .args .session .now) (c .before .before .before .before .before .before .before .before .before .before .before .before .before .before .read .ensures) tt (c .before .before .before .before .before .before .before .before .before .take-byte .ensures))
+    hand-on-requires
     (λ c. search needs)
     (λ c. search needs)
     (λ c. search needs)
     (λ c. search needs)
     (λ c. search needs)
-    (λ c. rw (← (c .before .before .before .before .before .before .before .before .before .before .before .before .before .before .before .before .before .read .ensures), (c .before .before .hand-on .ensures .0)) (handed-on (givenByte (c .before .before .before .before .before .before .before .before .before .before .before .before .before .before .before .before .before .read .result) (c .before .before .before .before .before .before .before .before .before .before .before .before .before .before .before .before .before .before .before .before .before .before .before .before .args .byte) (c .before .before .before .before .before .before .before .before .before .before .before .before .before .before .before .before .before .before .before .before .before .before .before .before .args .flash .now) (c .before .before .before .before .before .before .before .before .before .before .before .before .before .before .before .before .before .before .before .before .before .before .before .before .args .sram .now) (c .before .before .before .before .before .before .before .before .before .before .before .before .before .before .before .before .before .before .before .before .before .before .before .before .args .usd .now) (c .before .before .before .before .before .before .before .before .before .before .before .before .before .before .before .before .before .before .before .before .before .before .before .before .args .buffer .now)) (c .before .before .before .before .before .before .before .before .before .before .before .before .before .before .before .before .before .before .before .before .before .before .before .before .args .session .now) (c .before .before .before .before .before .before .before .before .before .before .before .before .before .before .before .before .before .read .ensures) tt (c .before .before .before .before .before .before .before .before .before .before .before .before .take-byte .ensures) (c .before .before .hand-on .ensures .1))))
+    returns)

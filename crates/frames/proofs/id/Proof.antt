@@ -12,4 +12,4 @@ id-spec =
     (λ c. search needs)
     (λ c. search needs)
     (λ c κs. search needs)
-    (λ c. rw (take-two ((c .before .before .before .before .args .frame .now)) (omega arith), ← (c .number2 .ensures))))
+    (λ c. rw (take-two (c .before .before .before .before .args .frame .now) (omega arith), ← c .number2 .ensures)))

@@ -10,10 +10,20 @@ use Rattle.gathering.proofs.Silent.{all-three}
 use Rattle.gathering.proofs.silent_frame.Statement.{statement}
 use Rattle.gathering.proofs.silent_frame.Tie as tie
 
+returns : tie.Need-returns
+returns c =
+    let start = c .before in
+    λ h. let a = eqb (start .args .id) (c .bears .result) in let b = ltb 0 (start .args .dlc) in let d = ltb (start .args .dlc)
+    (start .args .expected - start .args .taken) in let t = all-three a b d (holds-true (a && b && d) h) in record {
+      own = sym (eqb→eq (start .args .id) (c .bears .result) (t .0) ∙ c .bears .ensures);
+      some = ltb→lt 0 (start .args .dlc) (t .1);
+      short = omega (arith, ltb→lt (start .args .dlc) (start .args .expected - start .args .taken) (t .2));
+    }
+
 pub silent-frame-spec : {M : Type 1} → statement M
 silent-frame-spec =
     tie.close
     (tie.spec
     (λ c κs. search needs)
     (λ c. search needs)
-    (λ c. λ h. let a = eqb (c .before .args .id) (c .bears .result) in let b = ltb 0 (c .before .args .dlc) in let d = ltb (c .before .args .dlc) ((c .before .args .expected) - (c .before .args .taken)) in let t = all-three a b d (holds-true (a && b && d) h) in record { own = sym (eqb→eq (c .before .args .id) (c .bears .result) (t .0) ∙ (c .bears .ensures)); some = ltb→lt 0 (c .before .args .dlc) (t .1); short = omega (arith, ltb→lt (c .before .args .dlc) ((c .before .args .expected) - (c .before .args .taken)) (t .2)) }))
+    returns)

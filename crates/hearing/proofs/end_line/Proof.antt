@@ -13,15 +13,41 @@ use Rattle.hearing.proofs.Hearing.{told-as}
 use Rattle.hearing.proofs.end_line.Statement.{statement}
 use Rattle.hearing.proofs.end_line.Tie as tie
 
+slice-aggregate-answer : tie.Need-slice-aggregate-answer
+slice-aggregate-answer c =
+    let start = c .before .before .before .before .before .before .before .before in
+    sym (length-take-le (start .args .desk .kept) (start .args .line .now) (start .pre .0))
+
+answer-requires : tie.Need-answer-requires
+answer-requires c κs =
+    let start = c .before .before .before .before .before .before .before .before .before .before .before .before in
+    rw (length-take-le (start .args .desk .kept) (start .args .line .now) (start .pre .0)) (omega arith)
+
+returns : tie.Need-returns
+returns c =
+    let after-answer = c .before .before .before .before .before .before .before .before .before in
+    let start = after-answer .before .before .before .before .before .before .before .before .before .before .before .before .before in
+    let n = start .args .desk .lines in
+    let e : suc n ≡ n + 1 = omega arith in
+    let b = rw (length-take-le (start .args .desk .kept) (start .args .line .now) (start .pre .0)) at (after-answer .answer .ensures .1) in (
+      rw e (told-as (answer (n + 1) (take (start .args .desk .kept) (start .args .line .now))
+          (stateOf (start .args .desk .session) (start .args .flash .now) (start .args .sram .now) (start .args .usd .now)))
+          (λ (p : State). record { state = p; lines = n + 1; line = [] }) (start .args .desk .end) (after-answer .answer .result .end)
+          (start .args .out .now) (after-answer .answer .last .1 .1 .1 .1 .1 .1 .0)
+          (stateOf (after-answer .answer .result .session) (after-answer .answer .last .1 .1 .1 .0)
+          (after-answer .answer .last .1 .1 .1 .1 .0) (after-answer .answer .last .1 .1 .1 .1 .1 .0)) (after-answer .answer .ensures .0)),
+      (b, refl, refl),
+    )
+
 pub end-line-spec : {M : Type 1} → statement M
 end-line-spec =
     tie.close
     (tie.spec
     (λ c. search needs)
-    (λ c. sym (length-take-le (c .before .before .before .before .before .before .before .before .args .desk .kept) (c .before .before .before .before .before .before .before .before .args .line .now) (c .before .before .before .before .before .before .before .before .pre .0)))
-    (λ c κs. rw (length-take-le (c .before .before .before .before .before .before .before .before .before .before .before .before .args .desk .kept) (c .before .before .before .before .before .before .before .before .before .before .before .before .args .line .now) (c .before .before .before .before .before .before .before .before .before .before .before .before .pre .0)) (omega arith))
+    slice-aggregate-answer
+    answer-requires
     (λ c. search needs)
     (λ c. search needs)
     (λ c. search needs)
     (λ c. search needs)
-    (λ c. let n = (c .before .before .before .before .before .before .before .before .before .before .before .before .before .before .before .before .before .before .before .before .before .before .args .desk .lines) in let e : suc n ≡ n + 1 = omega arith in let b = rw (length-take-le (c .before .before .before .before .before .before .before .before .before .before .before .before .before .before .before .before .before .before .before .before .before .before .args .desk .kept) (c .before .before .before .before .before .before .before .before .before .before .before .before .before .before .before .before .before .before .before .before .before .before .args .line .now) (c .before .before .before .before .before .before .before .before .before .before .before .before .before .before .before .before .before .before .before .before .before .before .pre .0)) at (c .before .before .before .before .before .before .before .before .before .answer .ensures .1) in (rw e (told-as (answer (n + 1) (take (c .before .before .before .before .before .before .before .before .before .before .before .before .before .before .before .before .before .before .before .before .before .before .args .desk .kept) (c .before .before .before .before .before .before .before .before .before .before .before .before .before .before .before .before .before .before .before .before .before .before .args .line .now)) (stateOf (c .before .before .before .before .before .before .before .before .before .before .before .before .before .before .before .before .before .before .before .before .before .before .args .desk .session) (c .before .before .before .before .before .before .before .before .before .before .before .before .before .before .before .before .before .before .before .before .before .before .args .flash .now) (c .before .before .before .before .before .before .before .before .before .before .before .before .before .before .before .before .before .before .before .before .before .before .args .sram .now) (c .before .before .before .before .before .before .before .before .before .before .before .before .before .before .before .before .before .before .before .before .before .before .args .usd .now))) (λ (p : State). record { state = p; lines = n + 1; line = [] }) (c .before .before .before .before .before .before .before .before .before .before .before .before .before .before .before .before .before .before .before .before .before .before .args .desk .end) (c .before .before .before .before .before .before .before .before .before .answer .result .end) (c .before .before .before .before .before .before .before .before .before .before .before .before .before .before .before .before .before .before .before .before .before .before .args .out .now) (c .before .before .before .before .before .before .before .before .before .answer .last .1 .1 .1 .1 .1 .1 .0) (stateOf (c .before .before .before .before .before .before .before .before .before .answer .result .session) (c .before .before .before .before .before .before .before .before .before .answer .last .1 .1 .1 .0) (c .before .before .before .before .before .before .before .before .before .answer .last .1 .1 .1 .1 .0) (c .before .before .before .before .before .before .before .before .before .answer .last .1 .1 .1 .1 .1 .0)) (c .before .before .before .before .before .before .before .before .before .answer .ensures .0)), (b, refl, refl))))
+    returns)

@@ -10,8 +10,35 @@ use Rattle.answers.specs.Desk.{inputEnds}
 use Rattle.hearing.proofs.finish.Statement.{statement}
 use Rattle.hearing.proofs.finish.Tie as tie
 
-pub finish-spec : {M : Type 1} → statement M
+returns : tie.Need-returns
 unfolding inputEnds
+returns c =
+    let after-end-line = c .before .before .before .before .before .before .before .before in
+    let then1 = after-end-line .before .before .before .before .before in
+    let start = then1 .before .before .before .before .before .before .before in (
+      rw (
+        length-take-le (start .args .desk .kept) (start .args .line .now) (start .pre .0),
+        lt-ltb 0 (start .args .desk .kept) (then1 .if1 .taken),
+      ) (after-end-line .end-line .ensures .0),
+      omega (arith, after-end-line .end-line .ensures .1 .0),
+    )
+
+returns-2 : tie.Need-returns-2
+unfolding inputEnds
+returns-2 c =
+    let start = c .before .before .before .before .before .before .before in (
+      rw (
+        length-take-le (start .args .desk .kept) (start .args .line .now) (start .pre .0),
+        le-ltb 0 (start .args .desk .kept) (c .if1 .left),
+      ) (record {
+        end = omega arith;
+        text = sym (over-none newer (start .args .out .now) (start .args .desk .end));
+        state = refl;
+      }),
+      omega arith,
+    )
+
+pub finish-spec : {M : Type 1} → statement M
 finish-spec =
     tie.close
     (tie.spec
@@ -20,5 +47,5 @@ finish-spec =
     (λ c. search needs)
     (λ c. search needs)
     (λ c. search needs)
-    (λ c. (rw (length-take-le (c .before .before .before .before .before .before .before .before .before .before .before .before .before .before .before .before .before .before .before .before .args .desk .kept) (c .before .before .before .before .before .before .before .before .before .before .before .before .before .before .before .before .before .before .before .before .args .line .now) (c .before .before .before .before .before .before .before .before .before .before .before .before .before .before .before .before .before .before .before .before .pre .0), lt-ltb 0 (c .before .before .before .before .before .before .before .before .before .before .before .before .before .before .before .before .before .before .before .before .args .desk .kept) (c .before .before .before .before .before .before .before .before .before .before .before .before .before .if1 .taken)) (c .before .before .before .before .before .before .before .before .end-line .ensures .0), omega (arith, (c .before .before .before .before .before .before .before .before .end-line .ensures .1 .0))))
-    (λ c. (rw (length-take-le (c .before .before .before .before .before .before .before .args .desk .kept) (c .before .before .before .before .before .before .before .args .line .now) (c .before .before .before .before .before .before .before .pre .0), le-ltb 0 (c .before .before .before .before .before .before .before .args .desk .kept) (c .if1 .left)) (record { end = omega arith; text = sym (over-none newer (c .before .before .before .before .before .before .before .args .out .now) (c .before .before .before .before .before .before .before .args .desk .end)); state = refl }), omega arith)))
+    returns
+    returns-2)

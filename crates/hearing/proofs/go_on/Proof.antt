@@ -7,16 +7,78 @@ use Rattle.passing.proofs.Passing.{gone-on}
 use Rattle.hearing.proofs.go_on.Statement.{statement}
 use Rattle.hearing.proofs.go_on.Tie as tie
 
+end-line-requires : tie.Need-end-line-requires
+end-line-requires c κs =
+    let start = c .before .before .before .before .before .before .before .before .before .before in
+    (start .pre .0, omega (arith, start .pre .1), omega (arith, start .pre .2))
+
+nod-requires : tie.Need-nod-requires
+nod-requires c κs =
+    let after-gather = c .before .before in
+    let after-end-line = after-gather .before .before .before .before .before .before .before .before .before .before in
+    let start = after-end-line .before .before .before .before .before .before .before .before .before .before .before in
+    let p = after-gather .gather .ensures in
+    omega (
+      arith,
+      p .few,
+      p .within,
+      after-end-line .end-line .ensures .1 .0,
+      after-end-line .end-line .kept .1 .1 .1 .1 .1 .0,
+      start .pre .2,
+    )
+
+add-t27 : tie.Need-add-t27
+add-t27 c =
+    let after-gather = c .before .before .before .before .before .before in
+    let after-end-line = after-gather .before .before .before .before .before .before .before .before .before .before in
+    let start = after-end-line .before .before .before .before .before .before .before .before .before .before .before in
+    let p = after-gather .gather .ensures in
+    omega (arith, p .few, p .within, after-end-line .end-line .ensures .1 .2, start .pre .1)
+
+same-length : tie.Need-same-length
+same-length c =
+    let after-end-line = c .before .before .before .before .before .before .before .before .before .before .before .before .before .before .before .before in
+    after-end-line .end-line .kept .1 .1 .0
+
+same-length-2 : tie.Need-same-length-2
+same-length-2 c =
+    let after-end-line = c .before .before .before .before .before .before .before .before .before .before .before .before .before .before .before .before in
+    after-end-line .end-line .kept .1 .1 .1 .0
+
+same-length-3 : tie.Need-same-length-3
+same-length-3 c =
+    let after-end-line = c .before .before .before .before .before .before .before .before .before .before .before .before .before .before .before .before in
+    after-end-line .end-line .kept .1 .1 .1 .1 .0
+
+returns : tie.Need-returns
+returns c =
+    let after-nod = c .before .before .before in
+    let after-gather = after-nod .before .before .before in
+    let after-end-line = after-gather .before .before .before .before .before .before .before .before .before .before in
+    let start = after-end-line .before .before .before .before .before .before .before .before .before .before .before in
+    let p = after-gather .gather .ensures in
+    let b = after-end-line .end-line .ensures .1 in
+    let d =
+    deskOf (start .args .desk) (start .args .line .now) (start .args .flash .now) (start .args .sram .now) (start .args .usd .now) in (
+      rw (after-nod .nod .ensures .1) (gone-on d (start .args .rest .now) (after-end-line .end-line .result .session)
+          (after-gather .gather .result .session) (after-end-line .end-line .last .1 .1 .0) (after-end-line .end-line .last .1 .1 .1 .0)
+          (after-end-line .end-line .last .1 .1 .1 .1 .0) (after-end-line .end-line .result .lines) (after-gather .gather .result .lines)
+          (after-gather .gather .result .characters) (start .args .desk .end) (after-end-line .end-line .result .end)
+          (after-nod .nod .result) (start .args .out .now) (after-end-line .end-line .last .1 .1 .1 .1 .1 .0)
+          (rw (b .1) at (after-end-line .end-line .ensures .0)) p (after-nod .nod .ensures .0)),
+      (p .within, refl, omega (arith, b .2, p .few), omega (arith, b .0, p .few, after-nod .nod .ensures .0)),
+    )
+
 pub go-on-spec : {M : Type 1} → statement M
 go-on-spec =
     tie.close
     (tie.spec
-    (λ c κs. ((c .before .before .before .before .before .before .before .before .before .before .pre .0), omega (arith, (c .before .before .before .before .before .before .before .before .before .before .pre .1)), omega (arith, (c .before .before .before .before .before .before .before .before .before .before .pre .2))))
+    end-line-requires
     (λ c κs. search needs)
-    (λ c κs. let p = (c .before .before .gather .ensures) in omega (arith, p .few, p .within, (c .before .before .before .before .before .before .before .before .before .before .before .before .end-line .ensures .1 .0), (c .before .before .before .before .before .before .before .before .before .before .before .before .end-line .kept .1 .1 .1 .1 .1 .0), (c .before .before .before .before .before .before .before .before .before .before .before .before .before .before .before .before .before .before .before .before .before .before .before .pre .2)))
-    (λ c. let p = (c .before .before .before .before .before .before .gather .ensures) in omega (arith, p .few, p .within, (c .before .before .before .before .before .before .before .before .before .before .before .before .before .before .before .before .end-line .ensures .1 .2), (c .before .before .before .before .before .before .before .before .before .before .before .before .before .before .before .before .before .before .before .before .before .before .before .before .before .before .before .pre .1)))
-    (λ c. (c .before .before .before .before .before .before .before .before .before .before .before .before .before .before .before .before .end-line .kept .1 .1 .0))
-    (λ c. (c .before .before .before .before .before .before .before .before .before .before .before .before .before .before .before .before .end-line .kept .1 .1 .1 .0))
-    (λ c. (c .before .before .before .before .before .before .before .before .before .before .before .before .before .before .before .before .end-line .kept .1 .1 .1 .1 .0))
+    nod-requires
+    add-t27
+    same-length
+    same-length-2
+    same-length-3
     (λ c. search needs)
-    (λ c. let p = (c .before .before .before .before .before .before .gather .ensures) in let b = (c .before .before .before .before .before .before .before .before .before .before .before .before .before .before .before .before .end-line .ensures .1) in let d = deskOf (c .before .before .before .before .before .before .before .before .before .before .before .before .before .before .before .before .before .before .before .before .before .before .before .before .before .before .before .args .desk) (c .before .before .before .before .before .before .before .before .before .before .before .before .before .before .before .before .before .before .before .before .before .before .before .before .before .before .before .args .line .now) (c .before .before .before .before .before .before .before .before .before .before .before .before .before .before .before .before .before .before .before .before .before .before .before .before .before .before .before .args .flash .now) (c .before .before .before .before .before .before .before .before .before .before .before .before .before .before .before .before .before .before .before .before .before .before .before .before .before .before .before .args .sram .now) (c .before .before .before .before .before .before .before .before .before .before .before .before .before .before .before .before .before .before .before .before .before .before .before .before .before .before .before .args .usd .now) in (rw ((c .before .before .before .nod .ensures .1)) (gone-on d (c .before .before .before .before .before .before .before .before .before .before .before .before .before .before .before .before .before .before .before .before .before .before .before .before .before .before .before .args .rest .now) (c .before .before .before .before .before .before .before .before .before .before .before .before .before .before .before .before .end-line .result .session) (c .before .before .before .before .before .before .gather .result .session) (c .before .before .before .before .before .before .before .before .before .before .before .before .before .before .before .before .end-line .last .1 .1 .0) (c .before .before .before .before .before .before .before .before .before .before .before .before .before .before .before .before .end-line .last .1 .1 .1 .0) (c .before .before .before .before .before .before .before .before .before .before .before .before .before .before .before .before .end-line .last .1 .1 .1 .1 .0) (c .before .before .before .before .before .before .before .before .before .before .before .before .before .before .before .before .end-line .result .lines) (c .before .before .before .before .before .before .gather .result .lines) (c .before .before .before .before .before .before .gather .result .characters) (c .before .before .before .before .before .before .before .before .before .before .before .before .before .before .before .before .before .before .before .before .before .before .before .before .before .before .before .args .desk .end) (c .before .before .before .before .before .before .before .before .before .before .before .before .before .before .before .before .end-line .result .end) (c .before .before .before .nod .result) (c .before .before .before .before .before .before .before .before .before .before .before .before .before .before .before .before .before .before .before .before .before .before .before .before .before .before .before .args .out .now) (c .before .before .before .before .before .before .before .before .before .before .before .before .before .before .before .before .end-line .last .1 .1 .1 .1 .1 .0) (rw (b .1) at (c .before .before .before .before .before .before .before .before .before .before .before .before .before .before .before .before .end-line .ensures .0)) p (c .before .before .before .nod .ensures .0)), (p .within, refl, omega (arith, b .2, p .few), omega (arith, b .0, p .few, (c .before .before .before .nod .ensures .0))))))
+    returns)

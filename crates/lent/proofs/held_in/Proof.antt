@@ -4,8 +4,20 @@ use Rattle.lent.specs.Sessions.{heldIn}
 use Rattle.lent.proofs.held_in.Statement.{statement}
 use Rattle.lent.proofs.held_in.Tie as tie
 
-pub held-in-spec : {M : Type 1} → statement M
+returns : tie.Need-returns
 unfolding heldIn
+returns c =
+    let after-short-at = c .before .before in
+    let after-long-at2 = after-short-at .before in
+    let after-long-at = after-long-at2 .before in
+    rw (
+      ← after-long-at .long-at .ensures,
+      ← after-long-at2 .long-at2 .ensures,
+      ← after-short-at .short-at .ensures,
+      ← c .staged-in .ensures,
+    )
+
+pub held-in-spec : {M : Type 1} → statement M
 held-in-spec =
     tie.close
     (tie.spec
@@ -16,4 +28,4 @@ held-in-spec =
     (λ c κs. search needs)
     (λ c. search needs)
     (λ c κs. search needs)
-    (λ c. rw (← (c .before .before .before .before .long-at .ensures), ← (c .before .before .before .long-at2 .ensures), ← (c .before .before .short-at .ensures), ← (c .staged-in .ensures))))
+    returns)

@@ -9,10 +9,17 @@ use Rattle.boot.specs.Session.{noBytes}
 use Rattle.lent.proofs.staged_in.Statement.{statement}
 use Rattle.lent.proofs.staged_in.Tie as tie
 
+returns : tie.Need-returns
+returns c =
+    let after-copy = c .before in
+    let start = after-copy .before .before .before in
+    after-copy .copy .ensures ∙ put-all noBytes (part 23 257 (start .args .lent .now))
+    (length-part (start .args .lent .now) 23 257 (omega arith))
+
 pub staged-in-spec : {M : Type 1} → statement M
 staged-in-spec =
     tie.close
     (tie.spec
     (λ c. search needs)
     (λ c κs. search needs)
-    (λ c. (c .before .copy .ensures) ∙ put-all noBytes (part 23 257 (c .before .before .before .before .args .lent .now)) (length-part (c .before .before .before .before .args .lent .now) 23 257 (omega arith))))
+    returns)

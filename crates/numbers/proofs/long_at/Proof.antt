@@ -5,6 +5,12 @@ use Rattle.numbers.proofs.Numbers.{eight-at}
 use Rattle.numbers.proofs.long_at.Statement.{statement}
 use Rattle.numbers.proofs.long_at.Tie as tie
 
+returns : tie.Need-returns
+returns c =
+    let after-short-at = c .before in
+    let start = after-short-at .before .before in
+    rw (after-short-at .short-at .ensures, c .short-at2 .ensures) (eight-at (start .args .memory .now) (start .args .at) (omega arith))
+
 pub long-at-spec : {M : Type 1} → statement M
 long-at-spec =
     tie.close
@@ -16,4 +22,4 @@ long-at-spec =
     (λ c κs. search needs)
     (λ c. search needs)
     (λ c. search needs)
-    (λ c. rw ((c .before .short-at .ensures), (c .short-at2 .ensures)) (eight-at (c .before .before .before .args .memory .now) (c .before .before .before .args .at) (omega arith))))
+    returns)

@@ -5,6 +5,12 @@ use Rattle.numbers.proofs.Numbers.{low-byte, number-bytes}
 use Rattle.numbers.proofs.put_short.Statement.{statement}
 use Rattle.numbers.proofs.put_short.Tie as tie
 
+returns : tie.Need-returns
+returns c =
+    let after-copy = c .before .before in
+    let start = after-copy .before .before .before .before in
+    (rw (low-byte (start .args .n)) (after-copy .copy .ensures), number-bytes 4 (start .args .n) (omega arith))
+
 pub put-short-spec : {M : Type 1} → statement M
 put-short-spec =
     tie.close
@@ -16,4 +22,4 @@ put-short-spec =
     (λ c. search needs)
     (λ c κs. search needs)
     (λ c. search needs)
-    (λ c. (rw (low-byte (c .before .before .before .before .before .before .args .n)) (c .before .before .copy .ensures), number-bytes 4 (c .before .before .before .before .before .before .args .n) (omega arith))))
+    returns)

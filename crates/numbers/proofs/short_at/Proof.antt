@@ -5,6 +5,11 @@ use Rattle.numbers.proofs.Numbers.{four-at}
 use Rattle.numbers.proofs.short_at.Statement.{statement}
 use Rattle.numbers.proofs.short_at.Tie as tie
 
+returns : tie.Need-returns
+returns c =
+    let start = c .before .before .before .before .before .before in
+    rw (four-at (start .args .memory .now) (start .args .at) (omega arith), ← c .number4 .ensures)
+
 pub short-at-spec : {M : Type 1} → statement M
 short-at-spec =
     tie.close
@@ -17,4 +22,4 @@ short-at-spec =
     (λ c. search needs)
     (λ c. search needs)
     (λ c κs. search needs)
-    (λ c. rw (four-at (c .before .before .before .before .before .before .args .memory .now) (c .before .before .before .before .before .before .args .at) (omega arith), ← (c .number4 .ensures))))
+    returns)

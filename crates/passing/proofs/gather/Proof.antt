@@ -2,23 +2,103 @@
 use borrow.Author.Needs.{needs}
 use native.Mathlib.Omega.{arith}
 use mathlib.Core.Path.{_≡_, refl, sym, subst, _∙_}
-use Prim.Native.Nat.{_-_, _≤_}
+use Prim.Native.Nat.{_+_, _-_, _≤_, _<_}
 use borrow.Author.Tests.{not-false}
 use lib.Dec.{T}
-use lib.ListN.{length}
+use lib.ListN.{length, drop}
 use Rattle.words.proofs.Slices.{to-the-end}
 use Rattle.boot.proofs.Sound.{sound-taken, sound-expected}
 use Rattle.gathering.specs.Gathering.{HearsFrames}
-use Rattle.passing.specs.Passing.{PassesLines}
+use Rattle.passing.specs.Passing.{SilentLine, PassesLines}
 use Rattle.passing.proofs.Passing.{none-passed, went-on, few-brought}
 use Rattle.passing.proofs.gather.Statement.{statement}
 use Rattle.passing.proofs.gather.Tie as tie
 
 abbrev Inv-loop : tie.InvT-loop
-Inv-loop text flash sram usd here₀ lines₀ i₀ hears n new₀ here lines i new = (i ≤ n) × (length new ≡ 8) × HearsFrames here flash sram usd × PassesLines here₀ flash sram usd text here lines i
+Inv-loop text flash sram usd here₀ lines₀ i₀ hears n new₀ here lines i new =
+    (i ≤ n) × (length new ≡ 8) × HearsFrames here flash sram usd × PassesLines here₀ flash sram usd text here lines i
 
 abbrev μ-loop : tie.MeasureT-loop
 μ-loop text flash sram usd here₀ lines₀ i₀ hears n new₀ here lines i new = n - i
+
+-- the turn in which a line was found that is only gathered, what was found, and the start of the call
+abbrev here : tie.Else2 Inv-loop μ-loop → tie.At-loop Inv-loop μ-loop
+here c = c .before .before .before .before .before .before
+
+abbrev found : tie.Else2 Inv-loop μ-loop → tie.After-silent-line Inv-loop μ-loop
+found c = c .before .before
+
+abbrev start : tie.Else2 Inv-loop μ-loop → tie.Start Inv-loop μ-loop
+start c = here c .before .before .before .before
+
+-- the line is only gathered
+silent : (c : tie.Else2 Inv-loop μ-loop)
+    → SilentLine (here c .loop .here .step) (here c .loop .here .taken) (here c .loop .here .expected)
+    (drop (here c .loop .i) (start c .args .text .now)) (found c .silent-line .result .end) (found c .silent-line .result .count)
+    (found c .silent-line .last .1 .1 .1 .1 .0)
+silent c =
+    rw (to-the-end (here c .loop .i) (start c .args .text .now)) at (found c .silent-line .ensures (omega (arith, c .if2 .left)))
+
+-- its bytes are no more than a frame carries, and than are expected, and it stands within the text
+brought : (c : tie.Else2 Inv-loop μ-loop)
+    → (found c .silent-line .result .count ≤ 8)
+    × (here c .loop .here .taken + found c .silent-line .result .count < here c .loop .here .expected)
+    × (here c .loop .i + (found c .silent-line .result .end + 1) ≤ length (start c .args .text .now))
+brought c =
+    few-brought (start c .args .session) (here c .loop .here) (start c .args .flash) (start c .args .sram) (start c .args .usd)
+    (start c .args .text .now) (here c .loop .lines) (here c .loop .i) (here c .loop .inv .3) (here c .loop .inv .2)
+    (found c .silent-line .result .end) (found c .silent-line .result .count) (found c .silent-line .last .1 .1 .1 .1 .0) (silent c)
+
+loop-holds : tie.Need-loop-holds Inv-loop μ-loop
+loop-holds c =
+    let hears = c .before .hears-frames in
+    (omega arith, refl, hears .ensures (subst T (sym (not-false (hears .result) (c .if1 .left))) tt), none-passed _ _ _ _ _)
+
+silent-line-requires : tie.Need-silent-line-requires Inv-loop μ-loop
+silent-line-requires c κs =
+    let loop = c .before .before .before .loop in
+    (omega (arith, sound-taken (loop .here) (loop .inv .2 .firm)), loop .inv .1)
+
+stage-requires : tie.Need-stage-requires Inv-loop μ-loop
+stage-requires c κs =
+    let else2 = c .before .before in
+    let loop = here else2 .loop in (
+      omega (arith, brought else2 .1, sound-expected (loop .here) (loop .inv .2 .firm)),
+      omega (arith, brought else2 .0, loop .inv .1, found else2 .silent-line .kept .1 .1 .1 .1 .0),
+    )
+
+add-here : tie.Need-add-here Inv-loop μ-loop
+add-here c =
+    let else2 = c .before .before .before in
+    let loop = here else2 .loop in
+    omega (arith, brought else2 .1, sound-expected (loop .here) (loop .inv .2 .firm))
+
+add-lines : tie.Need-add-lines Inv-loop μ-loop
+add-lines c =
+    let else2 = c .before .before .before in
+    omega (arith, brought else2 .2, here else2 .loop .inv .3 .few, start else2 .good .1 .0 .0)
+
+add-i : tie.Need-add-i Inv-loop μ-loop
+add-i c = omega (arith, brought (c .before .before .before .before) .2)
+
+add-i-2 : tie.Need-add-i-2 Inv-loop μ-loop
+add-i-2 c = omega (arith, brought (c .before .before .before .before) .2)
+
+loop-less : tie.Need-loop-less Inv-loop μ-loop
+loop-less c = omega (arith, brought (c .before .before .before .before) .2)
+
+loop-again : tie.Need-loop-again Inv-loop μ-loop
+loop-again c =
+    let stage = c .before .stage in
+    let else2 = c .before .before .before .before in
+    let loop = here else2 .loop in
+    let args = start else2 .args in
+    let line = found else2 .silent-line in
+    let new = line .last .1 .1 .1 .1 .0 in
+    let w =
+    went-on (args .session) (loop .here) (args .flash) (args .sram) (args .usd) (args .text .now) (loop .lines) (loop .i)
+    (loop .inv .3) (loop .inv .2) (line .result .end) (line .result .count) new (silent else2) (stage .last .0) (stage .ensures) in
+    (brought else2 .2, line .kept .1 .1 .1 .1 .0 ∙ loop .inv .1, w .0, w .1)
 
 pub gather-spec : {M : Type 1} → statement M
 gather-spec =
@@ -28,19 +108,19 @@ gather-spec =
     μ-loop
     (λ c κs. search needs)
     (λ c. none-passed _ _ _ _ _)
-    (λ c. (omega arith, refl, (c .before .hears-frames .ensures) (subst T (sym (not-false (c .before .hears-frames .result) (c .if1 .left))) tt), none-passed _ _ _ _ _))
+    loop-holds
     (λ c. omega arith)
     (λ c. omega arith)
     (λ c. omega arith)
     (λ c. search needs)
-    (λ c κs. (omega (arith, sound-taken (c .before .before .before .loop .here) ((c .before .before .before .loop .inv .2 .firm))), (c .before .before .before .loop .inv .1)))
-    (λ c. (c .before .before .before .before .before .before .loop .inv .3))
+    silent-line-requires
+    (λ c. c .before .before .before .before .before .before .loop .inv .3)
     (λ c. search needs)
-    (λ c κs. let t = (c .before .before .before .before .before .before .before .before .before .before .before .before .args .text .now) in let i = (c .before .before .before .before .before .before .before .before .loop .i) in let h = (c .before .before .before .before .before .before .before .before .loop .here) in let l = rw (to-the-end i t) at ((c .before .before .before .before .silent-line .ensures) (omega (arith, (c .before .before .if2 .left)))) in let g = (c .before .before .before .before .before .before .before .before .loop .inv .2) in let p = (c .before .before .before .before .before .before .before .before .loop .inv .3) in let b = few-brought (c .before .before .before .before .before .before .before .before .before .before .before .before .args .session) h (c .before .before .before .before .before .before .before .before .before .before .before .before .args .flash) (c .before .before .before .before .before .before .before .before .before .before .before .before .args .sram) (c .before .before .before .before .before .before .before .before .before .before .before .before .args .usd) t (c .before .before .before .before .before .before .before .before .loop .lines) i p g (c .before .before .before .before .silent-line .result .end) (c .before .before .before .before .silent-line .result .count) ((c .before .before .before .before .silent-line .last .1 .1 .1 .1 .0)) l in (omega (arith, b .1, sound-expected h (g .firm)), omega (arith, b .0, (c .before .before .before .before .before .before .before .before .loop .inv .1), (c .before .before .before .before .silent-line .kept .1 .1 .1 .1 .0))))
-    (λ c. let t = (c .before .before .before .before .before .before .before .before .before .before .before .before .before .args .text .now) in let i = (c .before .before .before .before .before .before .before .before .before .loop .i) in let h = (c .before .before .before .before .before .before .before .before .before .loop .here) in let l = rw (to-the-end i t) at ((c .before .before .before .before .before .silent-line .ensures) (omega (arith, (c .before .before .before .if2 .left)))) in let g = (c .before .before .before .before .before .before .before .before .before .loop .inv .2) in let p = (c .before .before .before .before .before .before .before .before .before .loop .inv .3) in let b = few-brought (c .before .before .before .before .before .before .before .before .before .before .before .before .before .args .session) h (c .before .before .before .before .before .before .before .before .before .before .before .before .before .args .flash) (c .before .before .before .before .before .before .before .before .before .before .before .before .before .args .sram) (c .before .before .before .before .before .before .before .before .before .before .before .before .before .args .usd) t (c .before .before .before .before .before .before .before .before .before .loop .lines) i p g (c .before .before .before .before .before .silent-line .result .end) (c .before .before .before .before .before .silent-line .result .count) ((c .before .before .before .before .before .silent-line .last .1 .1 .1 .1 .0)) l in omega (arith, b .1, sound-expected h (g .firm)))
-    (λ c. let t = (c .before .before .before .before .before .before .before .before .before .before .before .before .before .args .text .now) in let i = (c .before .before .before .before .before .before .before .before .before .loop .i) in let h = (c .before .before .before .before .before .before .before .before .before .loop .here) in let l = rw (to-the-end i t) at ((c .before .before .before .before .before .silent-line .ensures) (omega (arith, (c .before .before .before .if2 .left)))) in let g = (c .before .before .before .before .before .before .before .before .before .loop .inv .2) in let p = (c .before .before .before .before .before .before .before .before .before .loop .inv .3) in let b = few-brought (c .before .before .before .before .before .before .before .before .before .before .before .before .before .args .session) h (c .before .before .before .before .before .before .before .before .before .before .before .before .before .args .flash) (c .before .before .before .before .before .before .before .before .before .before .before .before .before .args .sram) (c .before .before .before .before .before .before .before .before .before .before .before .before .before .args .usd) t (c .before .before .before .before .before .before .before .before .before .loop .lines) i p g (c .before .before .before .before .before .silent-line .result .end) (c .before .before .before .before .before .silent-line .result .count) ((c .before .before .before .before .before .silent-line .last .1 .1 .1 .1 .0)) l in omega (arith, b .2, p .few))
-    (λ c. let t = (c .before .before .before .before .before .before .before .before .before .before .before .before .before .before .args .text .now) in let i = (c .before .before .before .before .before .before .before .before .before .before .loop .i) in let h = (c .before .before .before .before .before .before .before .before .before .before .loop .here) in let l = rw (to-the-end i t) at ((c .before .before .before .before .before .before .silent-line .ensures) (omega (arith, (c .before .before .before .before .if2 .left)))) in let g = (c .before .before .before .before .before .before .before .before .before .before .loop .inv .2) in let p = (c .before .before .before .before .before .before .before .before .before .before .loop .inv .3) in let b = few-brought (c .before .before .before .before .before .before .before .before .before .before .before .before .before .before .args .session) h (c .before .before .before .before .before .before .before .before .before .before .before .before .before .before .args .flash) (c .before .before .before .before .before .before .before .before .before .before .before .before .before .before .args .sram) (c .before .before .before .before .before .before .before .before .before .before .before .before .before .before .args .usd) t (c .before .before .before .before .before .before .before .before .before .before .loop .lines) i p g (c .before .before .before .before .before .before .silent-line .result .end) (c .before .before .before .before .before .before .silent-line .result .count) ((c .before .before .before .before .before .before .silent-line .last .1 .1 .1 .1 .0)) l in omega (arith, b .2))
-    (λ c. let t = (c .before .before .before .before .before .before .before .before .before .before .before .before .before .before .args .text .now) in let i = (c .before .before .before .before .before .before .before .before .before .before .loop .i) in let h = (c .before .before .before .before .before .before .before .before .before .before .loop .here) in let l = rw (to-the-end i t) at ((c .before .before .before .before .before .before .silent-line .ensures) (omega (arith, (c .before .before .before .before .if2 .left)))) in let g = (c .before .before .before .before .before .before .before .before .before .before .loop .inv .2) in let p = (c .before .before .before .before .before .before .before .before .before .before .loop .inv .3) in let b = few-brought (c .before .before .before .before .before .before .before .before .before .before .before .before .before .before .args .session) h (c .before .before .before .before .before .before .before .before .before .before .before .before .before .before .args .flash) (c .before .before .before .before .before .before .before .before .before .before .before .before .before .before .args .sram) (c .before .before .before .before .before .before .before .before .before .before .before .before .before .before .args .usd) t (c .before .before .before .before .before .before .before .before .before .before .loop .lines) i p g (c .before .before .before .before .before .before .silent-line .result .end) (c .before .before .before .before .before .before .silent-line .result .count) ((c .before .before .before .before .before .before .silent-line .last .1 .1 .1 .1 .0)) l in omega (arith, b .2))
-    (λ c. let t = (c .before .before .before .before .before .before .before .before .before .before .before .before .before .before .args .text .now) in let i = (c .before .before .before .before .before .before .before .before .before .before .loop .i) in let h = (c .before .before .before .before .before .before .before .before .before .before .loop .here) in let l = rw (to-the-end i t) at ((c .before .before .before .before .before .before .silent-line .ensures) (omega (arith, (c .before .before .before .before .if2 .left)))) in let g = (c .before .before .before .before .before .before .before .before .before .before .loop .inv .2) in let p = (c .before .before .before .before .before .before .before .before .before .before .loop .inv .3) in let b = few-brought (c .before .before .before .before .before .before .before .before .before .before .before .before .before .before .args .session) h (c .before .before .before .before .before .before .before .before .before .before .before .before .before .before .args .flash) (c .before .before .before .before .before .before .before .before .before .before .before .before .before .before .args .sram) (c .before .before .before .before .before .before .before .before .before .before .before .before .before .before .args .usd) t (c .before .before .before .before .before .before .before .before .before .before .loop .lines) i p g (c .before .before .before .before .before .before .silent-line .result .end) (c .before .before .before .before .before .before .silent-line .result .count) ((c .before .before .before .before .before .before .silent-line .last .1 .1 .1 .1 .0)) l in omega (arith, b .2))
-    (λ c. let t = (c .before .before .before .before .before .before .before .before .before .before .before .before .before .before .args .text .now) in let i = (c .before .before .before .before .before .before .before .before .before .before .loop .i) in let h = (c .before .before .before .before .before .before .before .before .before .before .loop .here) in let l = rw (to-the-end i t) at ((c .before .before .before .before .before .before .silent-line .ensures) (omega (arith, (c .before .before .before .before .if2 .left)))) in let g = (c .before .before .before .before .before .before .before .before .before .before .loop .inv .2) in let p = (c .before .before .before .before .before .before .before .before .before .before .loop .inv .3) in let b = few-brought (c .before .before .before .before .before .before .before .before .before .before .before .before .before .before .args .session) h (c .before .before .before .before .before .before .before .before .before .before .before .before .before .before .args .flash) (c .before .before .before .before .before .before .before .before .before .before .before .before .before .before .args .sram) (c .before .before .before .before .before .before .before .before .before .before .before .before .before .before .args .usd) t (c .before .before .before .before .before .before .before .before .before .before .loop .lines) i p g (c .before .before .before .before .before .before .silent-line .result .end) (c .before .before .before .before .before .before .silent-line .result .count) ((c .before .before .before .before .before .before .silent-line .last .1 .1 .1 .1 .0)) l in let w = went-on (c .before .before .before .before .before .before .before .before .before .before .before .before .before .before .args .session) h (c .before .before .before .before .before .before .before .before .before .before .before .before .before .before .args .flash) (c .before .before .before .before .before .before .before .before .before .before .before .before .before .before .args .sram) (c .before .before .before .before .before .before .before .before .before .before .before .before .before .before .args .usd) t (c .before .before .before .before .before .before .before .before .before .before .loop .lines) i p g (c .before .before .before .before .before .before .silent-line .result .end) (c .before .before .before .before .before .before .silent-line .result .count) ((c .before .before .before .before .before .before .silent-line .last .1 .1 .1 .1 .0)) l (c .before .stage .last .0) (c .before .stage .ensures) in (b .2, (c .before .before .before .before .before .before .silent-line .kept .1 .1 .1 .1 .0) ∙ (c .before .before .before .before .before .before .before .before .before .before .loop .inv .1), w .0, w .1))
-    (λ c. (c .before .loop .inv .3)))
+    stage-requires
+    add-here
+    add-lines
+    add-i
+    add-i-2
+    loop-less
+    loop-again
+    (λ c. c .before .loop .inv .3))

@@ -15,10 +15,49 @@ use Rattle.passing.proofs.nod.Statement.{statement}
 use Rattle.passing.proofs.nod.Tie as tie
 
 abbrev Inv-loop : tie.InvT-loop
-Inv-loop lines out₀ at answer end₀ i₀ out end i = (i ≤ lines) × (end ≡ at + i + i) × (out ≡ put out₀ at (nods i)) × (length out ≡ length out₀)
+Inv-loop lines out₀ at answer end₀ i₀ out end i =
+    (i ≤ lines)
+    × (end ≡ at + i + i)
+    × (out ≡ put out₀ at (nods i))
+    × (length out ≡ length out₀)
 
 abbrev μ-loop : tie.MeasureT-loop
 μ-loop lines out₀ at answer end₀ i₀ out end i = lines - i
+
+copy-requires : tie.Need-copy-requires Inv-loop μ-loop
+copy-requires c κs =
+    let at-loop = c .before .before .before in
+    let start = at-loop .before .before in
+    (omega (arith, at-loop .loop .inv .1, at-loop .loop .inv .3, start .pre), omega arith)
+
+add-end : tie.Need-add-end Inv-loop μ-loop
+add-end c =
+    let at-loop = c .before .before .before .before .before .before in
+    let start = at-loop .before .before in
+    omega (arith, at-loop .loop .inv .1, at-loop .loop .inv .3, start .pre)
+
+loop-again : tie.Need-loop-again Inv-loop μ-loop
+loop-again c =
+    let after-copy = c .before .before in
+    let at-loop = after-copy .before .before .before .before in
+    let start = at-loop .before .before in
+    let o = start .args .out .now in
+    let a = start .args .at in
+    let i = at-loop .loop .i in (
+      omega arith,
+      omega (arith, at-loop .loop .inv .1),
+      after-copy .copy .ensures ∙ ap (λ (m : List ℕ). put m (at-loop .loop .end) (answered ∷ lineFeed ∷ [])) (at-loop .loop .inv .2) ∙
+          put-then o a (at-loop .loop .end) (nods i) (answered ∷ lineFeed ∷ []) (omega (arith, at-loop .loop .inv .1, length-nods i)) ∙ ap
+          (λ (l : List ℕ). put o a l) (nods-more i),
+      after-copy .copy .kept .0 ∙ at-loop .loop .inv .3,
+    )
+
+returns : tie.Need-returns Inv-loop μ-loop
+returns c =
+    let at-loop = c .before in
+    let start = at-loop .before .before in
+    let e : at-loop .loop .i ≡ (start .args .lines) = omega (arith, at-loop .loop .inv .0) in
+    (omega (arith, at-loop .loop .inv .1), at-loop .loop .inv .2 ∙ ap (λ (n : ℕ). put (start .args .out .now) (start .args .at) (nods n)) e)
 
 pub nod-spec : {M : Type 1} → statement M
 nod-spec =
@@ -28,10 +67,10 @@ nod-spec =
     μ-loop
     (λ c. (omega arith, omega arith, sym (over-none newer (c .before .args .out .now) (c .before .args .at)), refl))
     (λ c. search needs)
-    (λ c κs. (omega (arith, (c .before .before .before .loop .inv .1), (c .before .before .before .loop .inv .3), (c .before .before .before .before .before .pre)), omega arith))
-    (λ c. omega (arith, (c .before .before .before .before .before .before .loop .inv .1), (c .before .before .before .before .before .before .loop .inv .3), (c .before .before .before .before .before .before .before .before .pre)))
+    copy-requires
+    add-end
     (λ c. omega arith)
     (λ c. omega arith)
-    (λ c. let o = (c .before .before .before .before .before .before .before .before .args .out .now) in let a = (c .before .before .before .before .before .before .before .before .args .at) in let i = (c .before .before .before .before .before .before .loop .i) in (omega arith, omega (arith, (c .before .before .before .before .before .before .loop .inv .1)), (c .before .before .copy .ensures) ∙ ap (λ (m : List ℕ). put m (c .before .before .before .before .before .before .loop .end) (answered ∷ lineFeed ∷ [])) (c .before .before .before .before .before .before .loop .inv .2) ∙ put-then o a (c .before .before .before .before .before .before .loop .end) (nods i) (answered ∷ lineFeed ∷ []) (omega (arith, (c .before .before .before .before .before .before .loop .inv .1), length-nods i)) ∙ ap (λ (l : List ℕ). put o a l) (nods-more i), (c .before .before .copy .kept .0) ∙ (c .before .before .before .before .before .before .loop .inv .3)))
-    (λ c. (c .before .loop .inv .3))
-    (λ c. let e : (c .before .loop .i) ≡ (c .before .before .before .args .lines) = omega (arith, (c .before .loop .inv .0)) in (omega (arith, (c .before .loop .inv .1)), (c .before .loop .inv .2) ∙ ap (λ (n : ℕ). put (c .before .before .before .args .out .now) (c .before .before .before .args .at) (nods n)) e)))
+    loop-again
+    (λ c. c .before .loop .inv .3)
+    returns)

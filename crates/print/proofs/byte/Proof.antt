@@ -4,6 +4,13 @@ use mathlib.Core.Path.{refl, _∙_}
 use Rattle.print.proofs.byte.Statement.{statement}
 use Rattle.print.proofs.byte.Tie as tie
 
+returns : tie.Need-returns
+returns c =
+    let after-copy = c .before .before in
+    let after-digit2 = after-copy .before .before .before in
+    let after-digit = after-digit2 .before in
+    after-copy .copy .ensures ∙ rw (after-digit .digit .ensures, after-digit2 .digit2 .ensures) refl
+
 pub byte-spec : {M : Type 1} → statement M
 byte-spec =
     tie.close
@@ -13,4 +20,4 @@ byte-spec =
     (λ c. search needs)
     (λ c κs. search needs)
     (λ c. search needs)
-    (λ c. (c .before .before .copy .ensures) ∙ rw ((c .before .before .before .before .before .before .digit .ensures), (c .before .before .before .before .before .digit2 .ensures)) refl))
+    returns)

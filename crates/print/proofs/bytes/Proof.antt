@@ -11,10 +11,33 @@ use Rattle.print.proofs.bytes.Statement.{statement}
 use Rattle.print.proofs.bytes.Tie as tie
 
 abbrev Inv-loop : tie.InvT-loop
-Inv-loop reply n out₀ at end₀ i₀ out end i = (i ≤ n) × (end ≡ at + i * 3) × (out ≡ put out₀ at (spelled (take i reply))) × (length out ≡ length out₀)
+Inv-loop reply n out₀ at end₀ i₀ out end i =
+    (i ≤ n)
+    × (end ≡ at + i * 3)
+    × (out ≡ put out₀ at (spelled (take i reply)))
+    × (length out ≡ length out₀)
 
 abbrev μ-loop : tie.MeasureT-loop
 μ-loop reply n out₀ at end₀ i₀ out end i = n - i
+
+loop-again : tie.Need-loop-again Inv-loop μ-loop
+loop-again c =
+    let after-byte = c .before .before in
+    let at-loop = after-byte .before .before .before .before in
+    let start = at-loop .before .before .before in (
+      omega arith,
+      omega arith,
+      after-byte .byte .ensures ∙ rw (at-loop .loop .inv .2) (spelled-more (start .args .out .now) (start .args .at)
+          (start .args .reply .now) (at-loop .loop .i) (at-loop .loop .end) (omega arith) (at-loop .loop .inv .1)),
+      ap length (after-byte .byte .ensures) ∙ simp (length-over newer) (at-loop .loop .inv .3),
+    )
+
+returns : tie.Need-returns Inv-loop μ-loop
+returns c =
+    let at-loop = c .before in
+    let start = at-loop .before .before .before in
+    let e : at-loop .loop .i ≡ (start .args .n) = omega arith in
+    (rw e at (at-loop .loop .inv .1), rw e at (at-loop .loop .inv .2))
 
 pub bytes-spec : {M : Type 1} → statement M
 bytes-spec =
@@ -28,6 +51,6 @@ bytes-spec =
     (λ c. omega arith)
     (λ c. omega arith)
     (λ c. omega arith)
-    (λ c. (omega arith, omega arith, (c .before .before .byte .ensures) ∙ rw ((c .before .before .before .before .before .before .loop .inv .2)) (spelled-more (c .before .before .before .before .before .before .before .before .before .args .out .now) (c .before .before .before .before .before .before .before .before .before .args .at) (c .before .before .before .before .before .before .before .before .before .args .reply .now) (c .before .before .before .before .before .before .loop .i) (c .before .before .before .before .before .before .loop .end) (omega arith) (c .before .before .before .before .before .before .loop .inv .1)), ap length (c .before .before .byte .ensures) ∙ simp (length-over newer) (c .before .before .before .before .before .before .loop .inv .3)))
-    (λ c. (c .before .loop .inv .3))
-    (λ c. let e : (c .before .loop .i) ≡ (c .before .before .before .before .args .n) = omega arith in (rw e at (c .before .loop .inv .1), rw e at (c .before .loop .inv .2))))
+    loop-again
+    (λ c. c .before .loop .inv .3)
+    returns)

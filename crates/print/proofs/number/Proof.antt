@@ -11,6 +11,33 @@ use Rattle.print.proofs.Spelling.{number-spelled}
 use Rattle.print.proofs.number.Statement.{statement}
 use Rattle.print.proofs.number.Tie as tie
 
+copy-requires : tie.Need-copy-requires
+copy-requires c κs =
+    let after-decimal = c .before .before in
+    let start = after-decimal .before .before .before in
+    let s = number-spelled (after-decimal .decimal .result) (start .args .n) (omega arith) (after-decimal .decimal .ensures .1 .0) in
+    (omega (arith, s .2), omega (arith, after-decimal .decimal .ensures .0 .1))
+
+add-result : tie.Need-add-result
+add-result c =
+    let after-decimal = c .before .before .before .before .before in
+    let start = after-decimal .before .before .before in
+    let s = number-spelled (after-decimal .decimal .result) (start .args .n) (omega arith) (after-decimal .decimal .ensures .1 .0) in
+    omega (arith, s .2)
+
+returns : tie.Need-returns
+returns c =
+    let after-copy = c .before .before in
+    let after-decimal = after-copy .before .before .before in
+    let start = after-decimal .before .before .before in
+    let s = number-spelled (after-decimal .decimal .result) (start .args .n) (omega arith) (after-decimal .decimal .ensures .1 .0) in (
+      ap (λ (k : ℕ). (start .args .at) + k) (s .1),
+      omega (arith, s .2),
+      after-copy .copy .ensures ∙ ap (λ (t : List ℕ). put (start .args .out .now) (start .args .at) t)
+          (take-all (after-decimal .decimal .result) (take (after-decimal .decimal .result) (after-decimal .decimal .last .1 .0))
+          (omega (arith, after-decimal .decimal .ensures .0 .1)) ∙ after-decimal .decimal .ensures .1 .1 ∙ s .0),
+    )
+
 pub number-spec : {M : Type 1} → statement M
 number-spec =
     tie.close
@@ -18,7 +45,7 @@ number-spec =
     (λ c κs. search needs)
     (λ c. search needs)
     (λ c. search needs)
-    (λ c κs. let s = number-spelled (c .before .before .decimal .result) (c .before .before .before .before .before .args .n) (omega arith) (c .before .before .decimal .ensures .1 .0) in (omega (arith, s .2), omega (arith, (c .before .before .decimal .ensures .0 .1))))
-    (λ c. let s = number-spelled (c .before .before .before .before .before .decimal .result) (c .before .before .before .before .before .before .before .before .args .n) (omega arith) (c .before .before .before .before .before .decimal .ensures .1 .0) in omega (arith, s .2))
+    copy-requires
+    add-result
     (λ c. search needs)
-    (λ c. let s = number-spelled (c .before .before .before .before .before .decimal .result) (c .before .before .before .before .before .before .before .before .args .n) (omega arith) (c .before .before .before .before .before .decimal .ensures .1 .0) in (ap (λ (k : ℕ). (c .before .before .before .before .before .before .before .before .args .at) + k) (s .1), omega (arith, s .2), (c .before .before .copy .ensures) ∙ ap (λ (t : List ℕ). put (c .before .before .before .before .before .before .before .before .args .out .now) (c .before .before .before .before .before .before .before .before .args .at) t) (take-all (c .before .before .before .before .before .decimal .result) (take (c .before .before .before .before .before .decimal .result) (c .before .before .before .before .before .decimal .last .1 .0)) (omega (arith, (c .before .before .before .before .before .decimal .ensures .0 .1))) ∙ (c .before .before .before .before .before .decimal .ensures .1 .1) ∙ s .0))))
+    returns)

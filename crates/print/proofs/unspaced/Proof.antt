@@ -13,10 +13,38 @@ use Rattle.print.proofs.unspaced.Statement.{statement}
 use Rattle.print.proofs.unspaced.Tie as tie
 
 abbrev Inv-loop : tie.InvT-loop
-Inv-loop bytes out₀ at n end₀ i₀ out end i = (i ≤ n) × (end ≡ at + i * 2) × (out ≡ put out₀ at (unspaced (take i bytes))) × (length out ≡ length out₀)
+Inv-loop bytes out₀ at n end₀ i₀ out end i =
+    (i ≤ n)
+    × (end ≡ at + i * 2)
+    × (out ≡ put out₀ at (unspaced (take i bytes)))
+    × (length out ≡ length out₀)
 
 abbrev μ-loop : tie.MeasureT-loop
 μ-loop bytes out₀ at n end₀ i₀ out end i = n - i
+
+loop-again : tie.Need-loop-again Inv-loop μ-loop
+loop-again c =
+    let after-copy = c .before .before in
+    let after-digit2 = after-copy .before .before .before in
+    let after-digit = after-digit2 .before .before in
+    let at-loop = after-digit .before .before .before in
+    let start = at-loop .before .before .before in (
+      omega arith,
+      omega arith,
+      after-copy .copy .ensures ∙ rw (after-digit .digit .ensures, after-digit2 .digit2 .ensures, at-loop .loop .inv .2)
+          (unspaced-more (start .args .out .now) (start .args .at) (start .args .bytes .now) (at-loop .loop .i) (at-loop .loop .end)
+          (omega arith) (at-loop .loop .inv .1)),
+      ap length (after-copy .copy .ensures) ∙ simp (length-over newer) (at-loop .loop .inv .3),
+    )
+
+returns : tie.Need-returns Inv-loop μ-loop
+returns c =
+    let at-loop = c .before in
+    let start = at-loop .before .before .before in
+    let e : at-loop .loop .i ≡ length (start .args .bytes .now) = omega arith in (
+      rw e at (at-loop .loop .inv .1),
+      rw (e, take-all (length (start .args .bytes .now)) (start .args .bytes .now) (omega arith)) at (at-loop .loop .inv .2),
+    )
 
 pub unspaced-spec : {M : Type 1} → statement M
 unspaced-spec =
@@ -34,6 +62,6 @@ unspaced-spec =
     (λ c. omega arith)
     (λ c. omega arith)
     (λ c. omega arith)
-    (λ c. (omega arith, omega arith, (c .before .before .copy .ensures) ∙ rw ((c .before .before .before .before .before .before .before .digit .ensures), (c .before .before .before .before .before .digit2 .ensures), (c .before .before .before .before .before .before .before .before .before .before .loop .inv .2)) (unspaced-more (c .before .before .before .before .before .before .before .before .before .before .before .before .before .args .out .now) (c .before .before .before .before .before .before .before .before .before .before .before .before .before .args .at) (c .before .before .before .before .before .before .before .before .before .before .before .before .before .args .bytes .now) (c .before .before .before .before .before .before .before .before .before .before .loop .i) (c .before .before .before .before .before .before .before .before .before .before .loop .end) (omega arith) (c .before .before .before .before .before .before .before .before .before .before .loop .inv .1)), ap length (c .before .before .copy .ensures) ∙ simp (length-over newer) (c .before .before .before .before .before .before .before .before .before .before .loop .inv .3)))
-    (λ c. (c .before .loop .inv .3))
-    (λ c. let e : (c .before .loop .i) ≡ length (c .before .before .before .before .args .bytes .now) = omega arith in (rw e at (c .before .loop .inv .1), rw (e, take-all (length (c .before .before .before .before .args .bytes .now)) (c .before .before .before .before .args .bytes .now) (omega arith)) at (c .before .loop .inv .2))))
+    loop-again
+    (λ c. c .before .loop .inv .3)
+    returns)

@@ -23,7 +23,7 @@ fixed-bytes-spec =
     (λ c. rw (c .enum-told2 .given .1) (record { there = omega arith; few = omega arith }, λ list l m. refl))
     (λ c. rw (c .enum-told3 .given .1) (record { there = omega arith; few = omega arith }, λ list l m. refl))
     (λ c. rw (c .enum-told4 .given .1) (record { there = omega arith; few = omega arith }, λ list l m. refl))
-    (λ c. rw (c .enum-told5 .given .1) ((c .before .before .pre .1), λ list l m. l .told ∙ commands-joined list m))
+    (λ c. rw (c .enum-told5 .given .1) (c .before .before .pre .1, λ list l m. l .told ∙ commands-joined list m))
     (λ c. rw (c .enum-told6 .given .1) (record { there = omega arith; few = omega arith }, λ list l m. refl))
     (λ c. rw (c .enum-told7 .given .1) (record { there = omega arith; few = omega arith }, λ list l m. refl))
     (λ c. (record { there = omega arith; few = omega arith }, λ list l m. rest-silent list (c .before .args .reply) (c .before .pre .0) (c .match .keys8) m)))

@@ -9,6 +9,15 @@ use Rattle.words.specs.Over.{newer}
 use Rattle.reply.proofs.say_bytes.Statement.{statement}
 use Rattle.reply.proofs.say_bytes.Tie as tie
 
+returns : tie.Need-returns
+returns c =
+    let after-copy = c .before .before in
+    let start = after-copy .before .before .before .before in (
+      refl,
+      after-copy .copy .ensures ∙ put-cons (start .args .buffer .now) 121
+          (part (start .args .at) (start .args .x) (start .args .memory .now)) (omega arith),
+    )
+
 pub say-bytes-spec : {M : Type 1} → statement M
 say-bytes-spec =
     tie.close
@@ -17,4 +26,4 @@ say-bytes-spec =
     (λ c κs. (simp length-set (omega arith), omega arith))
     (λ c. search needs)
     (λ c. ap length (c .before .before .copy .ensures) ∙ simp (length-over newer, length-set))
-    (λ c. (refl, c .before .before .copy .ensures ∙ put-cons (c .before .before .before .before .before .before .args .buffer .now) 121 (part (c .before .before .before .before .before .before .args .at) (c .before .before .before .before .before .before .args .x) (c .before .before .before .before .before .before .args .memory .now)) (omega arith))))
+    returns)

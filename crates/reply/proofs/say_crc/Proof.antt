@@ -12,11 +12,22 @@ use Rattle.command.specs.Says.{ackByte}
 use Rattle.reply.proofs.say_crc.Statement.{statement}
 use Rattle.reply.proofs.say_crc.Tie as tie
 
+returns : tie.Need-returns
+returns c =
+    let after-put-short = c .before .before in
+    let start = after-put-short .before .before .before in
+    let b = start .args .buffer .now in
+    let four = fourBytes (start .args .value) in (
+      refl,
+      after-put-short .put-short .ensures .0 ∙ ap (λ (m : List ℕ). put m 1 four) (sym (put-one b 0 ackByte)) ∙ put-then b 0 1 (ackByte ∷ [])
+          four refl,
+    )
+
 pub say-crc-spec : {M : Type 1} → statement M
 say-crc-spec =
     tie.close
     (tie.spec
     (λ c. search needs)
     (λ c κs. simp length-set (omega arith))
-    (λ c. (c .before .before .put-short .kept .0) ∙ length-set (c .before .before .before .before .before .args .buffer .now) 0 ackByte)
-    (λ c. let b = (c .before .before .before .before .before .args .buffer .now) in let four = fourBytes (c .before .before .before .before .before .args .value) in (refl, (c .before .before .put-short .ensures .0) ∙ ap (λ (m : List ℕ). put m 1 four) (sym (put-one b 0 ackByte)) ∙ put-then b 0 1 (ackByte ∷ []) four refl)))
+    (λ c. c .before .before .put-short .kept .0 ∙ length-set (c .before .before .before .before .before .args .buffer .now) 0 ackByte)
+    returns)

@@ -8,6 +8,18 @@ use Rattle.words.specs.Lists.{part}
 use Rattle.reply.proofs.say_sum.Statement.{statement}
 use Rattle.reply.proofs.say_sum.Tie as tie
 
+returns : tie.Need-returns
+returns c =
+    let after-say-crc = c .before .before in
+    let after-crc = after-say-crc .before .before in
+    let start = after-crc .before .before .before .before in
+    let at = start .args .at in
+    let n = start .args .n in
+    let f = start .args .flash .now in
+    let e : at + n - at ≡ n = omega arith in
+    let v : after-crc .crc .result ≡ crc (part at n f) = after-crc .crc .ensures ∙ ap (λ (k : ℕ). crc (part at k f)) e in
+    (after-say-crc .say-crc .ensures .0, rw (← v) (after-say-crc .say-crc .ensures .1))
+
 pub say-sum-spec : {M : Type 1} → statement M
 say-sum-spec =
     tie.close
@@ -19,4 +31,4 @@ say-sum-spec =
     (λ c κs. search needs)
     (λ c κs. search needs)
     (λ c. search needs)
-    (λ c. let at = c .before .before .before .before .before .before .before .before .args .at in let n = c .before .before .before .before .before .before .before .before .args .n in let f = c .before .before .before .before .before .before .before .before .args .flash .now in let e : at + n - at ≡ n = omega arith in let v : c .before .before .before .before .crc .result ≡ crc (part at n f) = c .before .before .before .before .crc .ensures ∙ ap (λ (k : ℕ). crc (part at k f)) e in (c .before .before .say-crc .ensures .0, rw (← v) (c .before .before .say-crc .ensures .1))))
+    returns)

@@ -10,10 +10,94 @@ use Rattle.talk.proofs.sit.Statement.{statement}
 use Rattle.talk.proofs.sit.Tie as tie
 
 abbrev Inv-loop : tie.InvT-loop
-Inv-loop from to line₀ flash₀ sram₀ usd₀ out₀ desk₀ turns₀ line flash sram usd out desk turns = Ready desk line out × (desk .lines + readCharacters * turns ≤ 2 ^ 63) × (length line ≡ length line₀) × (length flash ≡ length flash₀) × (length sram ≡ length sram₀) × (length usd ≡ length usd₀) × (length out ≡ length out₀)
+Inv-loop from to line₀ flash₀ sram₀ usd₀ out₀ desk₀ turns₀ line flash sram usd out desk turns =
+    Ready desk line out
+    × (desk .lines + readCharacters * turns ≤ 2 ^ 63)
+    × (length line ≡ length line₀)
+    × (length flash ≡ length flash₀)
+    × (length sram ≡ length sram₀)
+    × (length usd ≡ length usd₀)
+    × (length out ≡ length out₀)
 
 abbrev μ-loop : tie.MeasureT-loop
 μ-loop from to line₀ flash₀ sram₀ usd₀ out₀ desk₀ turns₀ line flash sram usd out desk turns = turns
+
+loop-holds : tie.Need-loop-holds Inv-loop μ-loop
+loop-holds c =
+    let start = c .before .before .before .before .before .before in (
+      record { room = (start .pre .0); kept = omega arith; written = refl; answers = (start .pre .1) },
+      omega arith,
+      refl,
+      refl,
+      refl,
+      refl,
+      refl,
+    )
+
+turn-requires : tie.Need-turn-requires Inv-loop μ-loop
+turn-requires c κs =
+    let at-loop = c .before .before .before .before .before .before in
+    (at-loop .loop .inv .0, omega (arith, at-loop .loop .inv .1))
+
+loop-again : tie.Need-loop-again Inv-loop μ-loop
+loop-again c =
+    let after-turn = c .before .before .before .before .before .before .before .before .before .before .before .before in
+    let at-loop = after-turn .before .before .before .before .before .before .before in
+    let k = after-turn .turn .kept in (
+      after-turn .turn .ensures .0,
+      omega (arith, after-turn .turn .ensures .1, c .turns-left .ensures, at-loop .loop .inv .1),
+      k .1 .1 .1 .0 ∙ at-loop .loop .inv .2,
+      k .1 .1 .1 .1 .0 ∙ at-loop .loop .inv .3,
+      k .1 .1 .1 .1 .1 .0 ∙ at-loop .loop .inv .4,
+      k .1 .1 .1 .1 .1 .1 .0 ∙ at-loop .loop .inv .5,
+      k .1 .1 .1 .1 .1 .1 .1 .0 ∙ at-loop .loop .inv .6,
+    )
+
+finish-requires : tie.Need-finish-requires Inv-loop μ-loop
+finish-requires c κs =
+    let at-loop = c .before .before .before .before .before .before in
+    let r = at-loop .loop .inv .0 in
+    (omega (arith, r .room, r .kept), omega (arith, at-loop .loop .inv .1), omega (arith, r .kept, r .written, r .answers))
+
+slice-reshare-prefix-write-all : tie.Need-slice-reshare-prefix-write-all Inv-loop μ-loop
+slice-reshare-prefix-write-all c =
+    let after-finish = c .before .before .before .before .before .before .before .before in
+    omega (arith, after-finish .finish .ensures .1, after-finish .finish .kept .1 .1 .1 .1 .1 .0)
+
+slice-aggregate-write-all : tie.Need-slice-aggregate-write-all Inv-loop μ-loop
+slice-aggregate-write-all c =
+    let after-finish = c .before .before .before .before .before .before .before .before .before in
+    sym (length-take-le (after-finish .finish .result .end) (after-finish .finish .last .1 .1 .1 .1 .1 .0)
+    (omega (arith, after-finish .finish .ensures .1, after-finish .finish .kept .1 .1 .1 .1 .1 .0)))
+
+same-length : tie.Need-same-length Inv-loop μ-loop
+same-length c =
+    let at-loop = c .before .before .before .before .before .before .before .before .before .before .before .before .before .before .before .before .before in
+    at-loop .loop .inv .2
+
+same-length-2 : tie.Need-same-length-2 Inv-loop μ-loop
+same-length-2 c =
+    let after-finish = c .before .before .before .before .before .before .before .before .before .before in
+    let at-loop = after-finish .before .before .before .before .before .before .before in
+    after-finish .finish .kept .1 .1 .0 ∙ at-loop .loop .inv .3
+
+same-length-3 : tie.Need-same-length-3 Inv-loop μ-loop
+same-length-3 c =
+    let after-finish = c .before .before .before .before .before .before .before .before .before .before in
+    let at-loop = after-finish .before .before .before .before .before .before .before in
+    after-finish .finish .kept .1 .1 .1 .0 ∙ at-loop .loop .inv .4
+
+same-length-4 : tie.Need-same-length-4 Inv-loop μ-loop
+same-length-4 c =
+    let after-finish = c .before .before .before .before .before .before .before .before .before .before in
+    let at-loop = after-finish .before .before .before .before .before .before .before in
+    after-finish .finish .kept .1 .1 .1 .1 .0 ∙ at-loop .loop .inv .5
+
+same-length-5 : tie.Need-same-length-5 Inv-loop μ-loop
+same-length-5 c =
+    let after-finish = c .before .before .before .before .before .before .before .before .before .before in
+    let at-loop = after-finish .before .before .before .before .before .before .before in
+    after-finish .finish .kept .1 .1 .1 .1 .1 .0 ∙ at-loop .loop .inv .6
 
 pub sit-spec : {M : Type 1} → statement M
 sit-spec =
@@ -22,18 +106,18 @@ sit-spec =
     Inv-loop
     μ-loop
     (λ c κs. search needs)
-    (λ c. (record { room = (c .before .before .before .before .before .before .pre .0); kept = omega arith; written = refl; answers = (c .before .before .before .before .before .before .pre .1) }, omega arith, refl, refl, refl, refl, refl))
-    (λ c κs. ((c .before .before .before .before .before .before .loop .inv .0), omega (arith, (c .before .before .before .before .before .before .loop .inv .1))))
+    loop-holds
+    turn-requires
     (λ c κs. omega arith)
-    (λ c. omega (arith, (c .turns-left .ensures)))
-    (λ c. let k = (c .before .before .before .before .before .before .before .before .before .before .before .before .turn .kept) in ((c .before .before .before .before .before .before .before .before .before .before .before .before .turn .ensures .0), omega (arith, (c .before .before .before .before .before .before .before .before .before .before .before .before .turn .ensures .1), (c .turns-left .ensures), (c .before .before .before .before .before .before .before .before .before .before .before .before .before .before .before .before .before .before .before .loop .inv .1)), k .1 .1 .1 .0 ∙ (c .before .before .before .before .before .before .before .before .before .before .before .before .before .before .before .before .before .before .before .loop .inv .2), k .1 .1 .1 .1 .0 ∙ (c .before .before .before .before .before .before .before .before .before .before .before .before .before .before .before .before .before .before .before .loop .inv .3), k .1 .1 .1 .1 .1 .0 ∙ (c .before .before .before .before .before .before .before .before .before .before .before .before .before .before .before .before .before .before .before .loop .inv .4), k .1 .1 .1 .1 .1 .1 .0 ∙ (c .before .before .before .before .before .before .before .before .before .before .before .before .before .before .before .before .before .before .before .loop .inv .5), k .1 .1 .1 .1 .1 .1 .1 .0 ∙ (c .before .before .before .before .before .before .before .before .before .before .before .before .before .before .before .before .before .before .before .loop .inv .6)))
-    (λ c κs. let r = (c .before .before .before .before .before .before .loop .inv .0) in (omega (arith, r .room, r .kept), omega (arith, (c .before .before .before .before .before .before .loop .inv .1)), omega (arith, r .kept, r .written, r .answers)))
-    (λ c. omega (arith, (c .before .before .before .before .before .before .before .before .finish .ensures .1), (c .before .before .before .before .before .before .before .before .finish .kept .1 .1 .1 .1 .1 .0)))
-    (λ c. sym (length-take-le (c .before .before .before .before .before .before .before .before .before .finish .result .end) (c .before .before .before .before .before .before .before .before .before .finish .last .1 .1 .1 .1 .1 .0) (omega (arith, (c .before .before .before .before .before .before .before .before .before .finish .ensures .1), (c .before .before .before .before .before .before .before .before .before .finish .kept .1 .1 .1 .1 .1 .0)))))
+    (λ c. omega (arith, c .turns-left .ensures))
+    loop-again
+    finish-requires
+    slice-reshare-prefix-write-all
+    slice-aggregate-write-all
     (λ c κs. search needs)
-    (λ c. (c .before .before .before .before .before .before .before .before .before .before .before .before .before .before .before .before .before .loop .inv .2))
-    (λ c. (c .before .before .before .before .before .before .before .before .before .before .finish .kept .1 .1 .0) ∙ (c .before .before .before .before .before .before .before .before .before .before .before .before .before .before .before .before .before .loop .inv .3))
-    (λ c. (c .before .before .before .before .before .before .before .before .before .before .finish .kept .1 .1 .1 .0) ∙ (c .before .before .before .before .before .before .before .before .before .before .before .before .before .before .before .before .before .loop .inv .4))
-    (λ c. (c .before .before .before .before .before .before .before .before .before .before .finish .kept .1 .1 .1 .1 .0) ∙ (c .before .before .before .before .before .before .before .before .before .before .before .before .before .before .before .before .before .loop .inv .5))
-    (λ c. (c .before .before .before .before .before .before .before .before .before .before .finish .kept .1 .1 .1 .1 .1 .0) ∙ (c .before .before .before .before .before .before .before .before .before .before .before .before .before .before .before .before .before .loop .inv .6))
+    same-length
+    same-length-2
+    same-length-3
+    same-length-4
+    same-length-5
     (λ c. search needs))

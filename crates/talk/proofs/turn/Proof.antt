@@ -6,6 +6,35 @@ use lib.Seq.{length-take-le}
 use Rattle.talk.proofs.turn.Statement.{statement}
 use Rattle.talk.proofs.turn.Tie as tie
 
+slice-aggregate-write-all : tie.Need-slice-aggregate-write-all
+slice-aggregate-write-all c =
+    let after-hear = c .before .before .before .before .before .before .before .before .before .before .before in
+    let k = after-hear .hear .kept .1 .1 .1 .1 .1 .1 .0 in
+    sym (length-take-le (after-hear .hear .result .end) (after-hear .hear .last .1 .1 .1 .1 .1 .1 .0)
+    (omega (arith, k, after-hear .hear .ensures .1 .0)))
+
+returns-2 : tie.Need-returns-2
+returns-2 c =
+    let after-hear = c .before .before .before .before .before .before .before .before .before .before .before .before in
+    let after-count = after-hear .before .before .before .before .before .before .before .before in
+    let after-read = after-count .before .before .before in
+    let start = after-read .before .before .before .before .before .before .before in
+    let k = after-hear .hear .kept .1 .1 .1 .1 .1 .1 .0 in (
+      record {
+        room = after-hear .hear .kept .1 .1 .0 ∙ (start .pre .0 .room);
+        kept = (after-hear .hear .ensures .1 .1);
+        written = refl;
+        answers = omega (arith, k, start .pre .0 .answers);
+      },
+      omega (
+        arith,
+        after-hear .hear .ensures .1 .2,
+        after-count .count .ensures .0 .0,
+        after-count .count .ensures .0 .1,
+        after-read .read .kept .1 .0,
+      ),
+    )
+
 pub turn-spec : {M : Type 1} → statement M
 turn-spec =
     tie.close
@@ -19,11 +48,11 @@ turn-spec =
     (λ c. search needs)
     (λ c κs. search needs)
     (λ c. search needs)
-    (λ c. let k = (c .before .before .before .before .before .before .before .before .before .before .before .hear .kept .1 .1 .1 .1 .1 .1 .0) in sym (length-take-le (c .before .before .before .before .before .before .before .before .before .before .before .hear .result .end) (c .before .before .before .before .before .before .before .before .before .before .before .hear .last .1 .1 .1 .1 .1 .1 .0) (omega (arith, k, (c .before .before .before .before .before .before .before .before .before .before .before .hear .ensures .1 .0)))))
+    slice-aggregate-write-all
     (λ c κs. search needs)
     (λ c. search needs)
     (λ c. search needs)
     (λ c. search needs)
     (λ c. search needs)
     (λ c. search needs)
-    (λ c. let k = (c .before .before .before .before .before .before .before .before .before .before .before .before .hear .kept .1 .1 .1 .1 .1 .1 .0) in (record { room = (c .before .before .before .before .before .before .before .before .before .before .before .before .hear .kept .1 .1 .0) ∙ (c .before .before .before .before .before .before .before .before .before .before .before .before .before .before .before .before .before .before .before .before .before .before .before .before .before .before .before .before .before .before .pre .0 .room); kept = (c .before .before .before .before .before .before .before .before .before .before .before .before .hear .ensures .1 .1); written = refl; answers = omega (arith, k, (c .before .before .before .before .before .before .before .before .before .before .before .before .before .before .before .before .before .before .before .before .before .before .before .before .before .before .before .before .before .before .pre .0 .answers)) }, omega (arith, (c .before .before .before .before .before .before .before .before .before .before .before .before .hear .ensures .1 .2), (c .before .before .before .before .before .before .before .before .before .before .before .before .before .before .before .before .before .before .before .before .count .ensures .0 .0), (c .before .before .before .before .before .before .before .before .before .before .before .before .before .before .before .before .before .before .before .before .count .ensures .0 .1), (c .before .before .before .before .before .before .before .before .before .before .before .before .before .before .before .before .before .before .before .before .before .before .before .read .kept .1 .0)))))
+    returns-2)

@@ -4,8 +4,16 @@ use Rattle.uart.specs.Conversation.{complete}
 use Rattle.uart_deciding.proofs.command_ends.Statement.{statement}
 use Rattle.uart_deciding.proofs.command_ends.Tie as tie
 
-pub command-ends-spec : {M : Type 1} → statement M
+returns : tie.Need-returns
 unfolding complete
+returns c =
+    let after-commanded = c .before in
+    let after-look-up = after-commanded .before in
+    let after-complemented = after-look-up .before .before in
+    rw (← after-complemented .complemented .ensures, ← after-look-up .look-up .ensures, ← after-commanded .commanded .ensures)
+    (c .accept-if .ensures)
+
+pub command-ends-spec : {M : Type 1} → statement M
 command-ends-spec =
     tie.close
     (tie.spec
@@ -14,4 +22,4 @@ command-ends-spec =
     (λ c κs. search needs)
     (λ c κs. search needs)
     (λ c κs. search needs)
-    (λ c. rw (← c .before .before .before .before .complemented .ensures, ← c .before .before .look-up .ensures, ← c .before .commanded .ensures) (c .accept-if .ensures)))
+    returns)

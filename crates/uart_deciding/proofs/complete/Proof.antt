@@ -10,6 +10,30 @@ use Rattle.uart.proofs.Steps.{counted, numbered}
 use Rattle.uart_deciding.proofs.complete.Statement.{statement}
 use Rattle.uart_deciding.proofs.complete.Tie as tie
 
+write-ends-requires : tie.Need-write-ends-requires
+write-ends-requires c κs =
+    let start = c .before .before .before .before in
+    let h =
+    counted (start .args .expected) (subst (λ (s : Step). T (expects s (start .args .expected))) (c .enum-told8 .given .1)
+    (start .pre .0)) in
+    (omega arith, h .0, h .1, omega arith)
+
+erase-ends-requires : tie.Need-erase-ends-requires
+erase-ends-requires c κs =
+    let start = c .before .before .before .before in
+    let h =
+    numbered (start .args .expected) (subst (λ (s : Step). T (expects s (start .args .expected))) (c .enum-told11 .given .1)
+    (start .pre .0)) in
+    (omega arith, h .0, h .1, omega arith)
+
+protect-ends-requires : tie.Need-protect-ends-requires
+protect-ends-requires c κs =
+    let start = c .before .before .before .before in
+    let h =
+    counted (start .args .expected) (subst (λ (s : Step). T (expects s (start .args .expected))) (c .enum-told13 .given .1)
+    (start .pre .0)) in
+    (h .0, h .1, omega arith)
+
 pub complete-spec : {M : Type 1} → statement M
 unfolding complete
 complete-spec =
@@ -30,17 +54,17 @@ complete-spec =
     (λ c. search needs)
     (λ c κs. search needs)
     (λ c. search needs)
-    (λ c κs. let h = counted (c .before .before .before .before .args .expected) (subst (λ (s : Step). T (expects s (c .before .before .before .before .args .expected))) (c .enum-told8 .given .1) (c .before .before .before .before .pre .0)) in (omega arith, h .0, h .1, omega arith))
+    write-ends-requires
     (λ c. search needs)
     (λ c κs. search needs)
     (λ c. search needs)
     (λ c κs. search needs)
     (λ c. search needs)
-    (λ c κs. let h = numbered (c .before .before .before .before .args .expected) (subst (λ (s : Step). T (expects s (c .before .before .before .before .args .expected))) (c .enum-told11 .given .1) (c .before .before .before .before .pre .0)) in (omega arith, h .0, h .1, omega arith))
+    erase-ends-requires
     (λ c. search needs)
     (λ c κs. search needs)
     (λ c. search needs)
-    (λ c κs. let h = counted (c .before .before .before .before .args .expected) (subst (λ (s : Step). T (expects s (c .before .before .before .before .args .expected))) (c .enum-told13 .given .1) (c .before .before .before .before .pre .0)) in (h .0, h .1, omega arith))
+    protect-ends-requires
     (λ c. search needs)
     (λ c κs. search needs)
     (λ c. rw (c .before .enum-told .given .1) (c .command-ends .ensures))

@@ -6,8 +6,21 @@ use Rattle.uart.specs.Conversation.{complete}
 use Rattle.uart_deciding.proofs.crc_ends.Statement.{statement}
 use Rattle.uart_deciding.proofs.crc_ends.Tie as tie
 
-pub crc-ends-spec : {M : Type 1} → statement M
+returns : tie.Need-returns
 unfolding complete
+returns c =
+    let after-sum = c .before in
+    let after-long-count = after-sum .before in
+    let after-xor-from = after-long-count .before .before .before in
+    let start = after-xor-from .before .before .before in
+    rw (
+      ← after-xor-from .xor-from .ensures,
+      take-two (start .args .bytes .now) (omega arith),
+      ← after-long-count .long-count .ensures .0,
+      ← after-sum .sum .ensures,
+    ) (c .accept-if .ensures)
+
+pub crc-ends-spec : {M : Type 1} → statement M
 crc-ends-spec =
     tie.close
     (tie.spec
@@ -18,4 +31,4 @@ crc-ends-spec =
     (λ c κs. search needs)
     (λ c κs. search needs)
     (λ c κs. search needs)
-    (λ c. rw (← c .before .before .before .before .before .xor-from .ensures, take-two (c .before .before .before .before .before .before .before .before .args .bytes .now) (omega arith), ← c .before .before .long-count .ensures .0, ← c .before .sum .ensures) (c .accept-if .ensures)))
+    returns)

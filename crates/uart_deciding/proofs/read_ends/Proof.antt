@@ -4,8 +4,16 @@ use Rattle.uart.specs.Conversation.{complete}
 use Rattle.uart_deciding.proofs.read_ends.Statement.{statement}
 use Rattle.uart_deciding.proofs.read_ends.Tie as tie
 
-pub read-ends-spec : {M : Type 1} → statement M
+returns : tie.Need-returns
 unfolding complete
+returns c =
+    let after-read = c .before in
+    let after-count-of = after-read .before in
+    let after-complemented = after-count-of .before .before in
+    rw (← after-complemented .complemented .ensures, ← after-count-of .count-of .ensures .0, ← after-read .read .ensures)
+    (c .accept-if .ensures)
+
+pub read-ends-spec : {M : Type 1} → statement M
 read-ends-spec =
     tie.close
     (tie.spec
@@ -14,4 +22,4 @@ read-ends-spec =
     (λ c κs. search needs)
     (λ c κs. search needs)
     (λ c κs. search needs)
-    (λ c. rw (← c .before .before .before .before .complemented .ensures, ← c .before .before .count-of .ensures .0, ← c .before .read .ensures) (c .accept-if .ensures)))
+    returns)

@@ -6,8 +6,16 @@ use Rattle.uart.specs.Conversation.{complete}
 use Rattle.uart_deciding.proofs.selector_ends.Statement.{statement}
 use Rattle.uart_deciding.proofs.selector_ends.Tie as tie
 
-pub selector-ends-spec : {M : Type 1} → statement M
+returns : tie.Need-returns
 unfolding complete
+returns c =
+    let after-selector-of = c .before in
+    let after-number2 = after-selector-of .before in
+    let start = after-number2 .before .before .before .before in
+    rw (take-two (start .args .bytes .now) (omega arith), ← after-number2 .number2 .ensures, ← after-selector-of .selector-of .ensures)
+    (c .selected .ensures)
+
+pub selector-ends-spec : {M : Type 1} → statement M
 selector-ends-spec =
     tie.close
     (tie.spec
@@ -16,4 +24,4 @@ selector-ends-spec =
     (λ c κs. search needs)
     (λ c κs. search needs)
     (λ c κs. search needs)
-    (λ c. rw (take-two (c .before .before .before .before .before .before .args .bytes .now) (omega arith), ← c .before .before .number2 .ensures, ← c .before .selector-of .ensures) (c .selected .ensures)))
+    returns)

@@ -4,8 +4,21 @@ use Rattle.uart.specs.Conversation.{complete}
 use Rattle.uart_deciding.proofs.special_ends.Statement.{statement}
 use Rattle.uart_deciding.proofs.special_ends.Tie as tie
 
-pub special-ends-spec : {M : Type 1} → statement M
+returns : tie.Need-returns
 unfolding complete
+returns c =
+    let after-judged = c .before in
+    let after-alter = after-judged .before in
+    let after-erase-all-verdict = after-alter .before in
+    let after-special-checks = after-erase-all-verdict .before in
+    rw (
+      ← after-special-checks .special-checks .ensures,
+      ← after-erase-all-verdict .erase-all-verdict .ensures,
+      ← after-alter .alter .ensures,
+      ← after-judged .judged .ensures,
+    ) (c .accept-if .ensures)
+
+pub special-ends-spec : {M : Type 1} → statement M
 special-ends-spec =
     tie.close
     (tie.spec
@@ -15,4 +28,4 @@ special-ends-spec =
     (λ c κs. search needs)
     (λ c κs. search needs)
     (λ c κs. search needs)
-    (λ c. rw (← c .before .before .before .before .special-checks .ensures, ← c .before .before .before .erase-all-verdict .ensures, ← c .before .before .alter .ensures, ← c .before .judged .ensures) (c .accept-if .ensures)))
+    returns)

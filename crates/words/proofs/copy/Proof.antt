@@ -10,10 +10,24 @@ use Rattle.words.proofs.copy.Statement.{statement}
 use Rattle.words.proofs.copy.Tie as tie
 
 abbrev Inv-loop : tie.InvT-loop
-Inv-loop memory₀ at bytes from n i₀ memory i = (i ≤ n) × (memory ≡ put memory₀ at (take i (drop from bytes))) × (length memory ≡ length memory₀)
+Inv-loop memory₀ at bytes from n i₀ memory i =
+    (i ≤ n)
+    × (memory ≡ put memory₀ at (take i (drop from bytes)))
+    × (length memory ≡ length memory₀)
 
 abbrev μ-loop : tie.MeasureT-loop
 μ-loop memory₀ at bytes from n i₀ memory i = n - i
+
+loop-again : tie.Need-loop-again Inv-loop μ-loop
+loop-again c =
+    let at-loop = c .before .before in
+    let start = at-loop .before in (
+      omega arith,
+      rw (at-loop .loop .inv .1, ← getD-drop (start .args .from) (start .args .bytes .now) (at-loop .loop .i) 0)
+          (over-more newer (start .args .memory .now) (start .args .at) (drop (start .args .from) (start .args .bytes .now))
+          (at-loop .loop .i) (omega arith) (simp length-drop (omega arith))),
+      simp length-set (omega arith),
+    )
 
 pub copy-spec : {M : Type 1} → statement M
 copy-spec =
@@ -28,6 +42,6 @@ copy-spec =
     (λ c. omega arith)
     (λ c. omega arith)
     (λ c. omega arith)
-    (λ c. (omega arith, rw (c .before .before .loop .inv .1, ← getD-drop (c .before .before .before .args .from) (c .before .before .before .args .bytes .now) (c .before .before .loop .i) 0) (over-more newer (c .before .before .before .args .memory .now) (c .before .before .before .args .at) (drop (c .before .before .before .args .from) (c .before .before .before .args .bytes .now)) (c .before .before .loop .i) (omega arith) (simp length-drop (omega arith))), simp length-set (omega arith)))
+    loop-again
     (λ c. omega arith)
     (λ c. let e : c .before .loop .i ≡ c .before .before .args .n = omega arith in cc))

@@ -14,6 +14,16 @@ Inv-loop memory₀ at n byte i₀ memory i = (i ≤ n) × (memory ≡ put memory
 abbrev μ-loop : tie.MeasureT-loop
 μ-loop memory₀ at n byte i₀ memory i = n - i
 
+loop-again : tie.Need-loop-again Inv-loop μ-loop
+loop-again c =
+    let at-loop = c .before in
+    let start = at-loop .before in (
+      omega arith,
+      rw (at-loop .loop .inv .1) (over-again newer (start .args .memory .now) (start .args .at) (start .args .byte) (at-loop .loop .i)
+          (omega arith)),
+      simp length-set (omega arith),
+    )
+
 pub fill-spec : {M : Type 1} → statement M
 fill-spec =
     tie.close
@@ -25,6 +35,6 @@ fill-spec =
     (λ c. omega arith)
     (λ c. omega arith)
     (λ c. omega arith)
-    (λ c. (omega arith, rw (c .before .loop .inv .1) (over-again newer (c .before .before .args .memory .now) (c .before .before .args .at) (c .before .before .args .byte) (c .before .loop .i) (omega arith)), simp length-set (omega arith)))
+    loop-again
     (λ c. omega arith)
     (λ c. let e : c .before .loop .i ≡ c .before .before .args .n = omega arith in cc))

@@ -15,6 +15,16 @@ Inv-loop memory₀ at bytes n i₀ memory i = (i ≤ n) × (memory ≡ over bitA
 abbrev μ-loop : tie.MeasureT-loop
 μ-loop memory₀ at bytes n i₀ memory i = n - i
 
+loop-again : tie.Need-loop-again Inv-loop μ-loop
+loop-again c =
+    let at-loop = c .before .before .before in
+    let start = at-loop .before in (
+      omega arith,
+      rw (at-loop .loop .inv .1) (over-more bitAnd (start .args .memory .now) (start .args .at) (start .args .bytes .now) (at-loop .loop .i)
+          (omega arith) (omega arith)),
+      simp length-set (omega arith),
+    )
+
 pub join-by-and-spec : {M : Type 1} → statement M
 join-by-and-spec =
     tie.close
@@ -28,6 +38,6 @@ join-by-and-spec =
     (λ c. omega arith)
     (λ c. omega arith)
     (λ c. omega arith)
-    (λ c. (omega arith, rw (c .before .before .before .loop .inv .1) (over-more bitAnd (c .before .before .before .before .args .memory .now) (c .before .before .before .before .args .at) (c .before .before .before .before .args .bytes .now) (c .before .before .before .loop .i) (omega arith) (omega arith)), simp length-set (omega arith)))
+    loop-again
     (λ c. omega arith)
     (λ c. let e : c .before .loop .i ≡ c .before .before .args .n = omega arith in cc))

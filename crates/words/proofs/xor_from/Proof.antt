@@ -15,6 +15,15 @@ Inv-loop start bytes n sum₀ i₀ sum i = (i ≤ n) × (xorFrom sum (slice i n 
 abbrev μ-loop : tie.MeasureT-loop
 μ-loop start bytes n sum₀ i₀ sum i = n - i
 
+loop-again : tie.Need-loop-again Inv-loop μ-loop
+loop-again c =
+    let at-loop = c .before .before in
+    let start = at-loop .before in (
+      omega arith,
+      rw add-one (rw (slice-cons (at-loop .loop .i) (start .args .n) (start .args .bytes .now) 0 (omega arith) (omega arith)) at
+          (at-loop .loop .inv .1)),
+    )
+
 pub xor-from-spec : {M : Type 1} → statement M
 xor-from-spec =
     tie.close
@@ -25,5 +34,5 @@ xor-from-spec =
     (λ c. omega arith)
     (λ c. omega arith)
     (λ c. omega arith)
-    (λ c. (omega arith, rw add-one (rw (slice-cons (c .before .before .loop .i) (c .before .before .before .args .n) (c .before .before .before .args .bytes .now) 0 (omega arith) (omega arith)) at (c .before .before .loop .inv .1))))
+    loop-again
     (λ c. let e : c .before .loop .i ≡ c .before .before .args .n = omega arith in rw (e, slice-empty) at (c .before .loop .inv .1)))

@@ -7,12 +7,40 @@ use Rattle.words.proofs.Tests.{same-order}
 use Rattle.board.proofs.Region.holds.Statement.{statement}
 use Rattle.board.proofs.Region.holds.Tie as tie
 
+returns : tie.Need-returns
+returns c =
+    let after-extent = c .before in
+    let start = after-extent .before in
+    let e = after-extent .extent .result in
+    rw (← after-extent .extent .ensures, lt-leb (e .first .0) (start .args .address .0) (c .if1 .taken))
+
+returns-2 : tie.Need-returns-2
+returns-2 c =
+    let after-extent = c .before .before in
+    let start = after-extent .before in
+    let e = after-extent .extent .result in
+    rw (
+      ← after-extent .extent .ensures,
+      le-leb (e .first .0) (start .args .address .0) (omega arith),
+      lt-leb (start .args .address .0 + start .args .x) (e .first .0 + e .bytes) (omega arith),
+    )
+
+returns-3 : tie.Need-returns-3
+returns-3 c =
+    let after-extent = c .before .before in
+    let start = after-extent .before in
+    let e = after-extent .extent .result in
+    let a = start .args .address .0 in
+    let x = start .args .x in
+    rw (← after-extent .extent .ensures, le-leb (e .first .0) a (omega arith))
+    (same-order (a - e .first .0) (e .bytes - x) (a + x) (e .first .0 + e .bytes) (λ h. omega arith) (λ h. omega arith))
+
 pub holds-spec : {M : Type 1} → statement M
 holds-spec =
     tie.close
     (tie.spec
     (λ c κs. search needs)
-    (λ c. let e = c .before .extent .result in rw (← c .before .extent .ensures, lt-leb (e .first .0) (c .before .before .args .address .0) (c .if1 .taken)))
-    (λ c. let e = c .before .before .extent .result in rw (← c .before .before .extent .ensures, le-leb (e .first .0) (c .before .before .before .args .address .0) (omega arith), lt-leb (c .before .before .before .args .address .0 + c .before .before .before .args .x) (e .first .0 + e .bytes) (omega arith)))
+    returns
+    returns-2
     (λ c. search needs)
-    (λ c. let e = c .before .before .extent .result in let a = c .before .before .before .args .address .0 in let x = c .before .before .before .args .x in rw (← c .before .before .extent .ensures, le-leb (e .first .0) a (omega arith)) (same-order (a - e .first .0) (e .bytes - x) (a + x) (e .first .0 + e .bytes) (λ h. omega arith) (λ h. omega arith))))
+    returns-3)

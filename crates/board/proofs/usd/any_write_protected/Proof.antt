@@ -11,10 +11,37 @@ use Rattle.board.proofs.usd.any_write_protected.Statement.{statement}
 use Rattle.board.proofs.usd.any_write_protected.Tie as tie
 
 abbrev Inv-loop : tie.InvT-loop
-Inv-loop usd n k₀ left₀ k left = (k + left ≡ k₀ + left₀) × (any (writeProtected usd) (sectorsFrom (sector k) left) ≡ any (writeProtected usd) (sectorsFrom (sector k₀) left₀))
+Inv-loop usd n k₀ left₀ k left =
+    (k + left ≡ k₀ + left₀)
+    × (any (writeProtected usd) (sectorsFrom (sector k) left) ≡ any (writeProtected usd) (sectorsFrom (sector k₀) left₀))
 
 abbrev μ-loop : tie.MeasureT-loop
 μ-loop usd n k₀ left₀ k left = left
+
+returns : tie.Need-returns Inv-loop μ-loop
+returns c =
+    let after-write-protected = c .before in
+    let at-loop = after-write-protected .before .before in
+    let start = at-loop .before .before in
+    rw (
+      ← at-loop .loop .inv .1,
+      any-first (writeProtected (start .args .usd .now)) (at-loop .loop .k) (at-loop .loop .left) (omega arith),
+      ← after-write-protected .write-protected .ensures,
+      c .if1 .taken,
+    )
+
+loop-again : tie.Need-loop-again Inv-loop μ-loop
+loop-again c =
+    let after-write-protected = c .before in
+    let at-loop = after-write-protected .before .before in
+    let start = at-loop .before .before in (
+      omega arith,
+      rw (
+        any-first (writeProtected (start .args .usd .now)) (at-loop .loop .k) (at-loop .loop .left) (omega arith),
+        ← after-write-protected .write-protected .ensures,
+        c .if1 .left,
+      ) at (at-loop .loop .inv .1),
+    )
 
 pub any-write-protected-spec : {M : Type 1} → statement M
 any-write-protected-spec =
@@ -24,9 +51,9 @@ any-write-protected-spec =
     μ-loop
     (λ c. (refl, refl))
     (λ c κs. (omega arith, lt→ltb (c .before .loop .k) 32 (omega arith)))
-    (λ c. rw (← c .before .before .before .loop .inv .1, any-first (writeProtected (c .before .before .before .before .before .args .usd .now)) (c .before .before .before .loop .k) (c .before .before .before .loop .left) (omega arith), ← c .before .write-protected .ensures, c .if1 .taken))
+    returns
     (λ c. omega arith)
     (λ c. omega arith)
     (λ c. omega arith)
-    (λ c. (omega arith, rw (any-first (writeProtected (c .before .before .before .before .before .args .usd .now)) (c .before .before .before .loop .k) (c .before .before .before .loop .left) (omega arith), ← c .before .write-protected .ensures, c .if1 .left) at (c .before .before .before .loop .inv .1)))
+    loop-again
     (λ c. let e : c .before .loop .left ≡ 0 = omega arith in rw (← c .before .loop .inv .1, e)))

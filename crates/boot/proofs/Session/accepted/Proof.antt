@@ -9,4 +9,4 @@ accepted-spec =
     (tie.spec
     (λ c κs. search needs)
     (λ c κs. search needs)
-    (λ c. rw (← (c .before .number .ensures), ← (c .after .ensures))))
+    (λ c. rw (← c .before .number .ensures, ← c .after .ensures)))

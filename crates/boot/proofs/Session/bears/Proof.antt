@@ -9,5 +9,5 @@ bears-spec =
     (tie.spec
     (λ c κs. search needs)
     (λ c κs. search needs)
-    (λ c. rw (← (c .before .before .on .ensures), (c .before .if1 .taken)) ((c .bears .ensures)))
-    (λ c. rw (← (c .before .on .ensures), (c .if1 .left))))
+    (λ c. rw (← c .before .before .on .ensures, c .before .if1 .taken) (c .bears .ensures))
+    (λ c. rw (← c .before .on .ensures, c .if1 .left)))

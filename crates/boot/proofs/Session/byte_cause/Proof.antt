@@ -10,4 +10,4 @@ byte-cause-spec =
     (λ c κs. search needs)
     (λ c κs. search needs)
     (λ c κs. search needs)
-    (λ c. rw (← (c .before .before .lengths-right .ensures), ← (c .before .has-room .ensures)) (c .cause .ensures)))
+    (λ c. rw (← c .before .before .lengths-right .ensures, ← c .before .has-room .ensures) (c .cause .ensures)))

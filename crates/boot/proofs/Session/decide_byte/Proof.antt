@@ -12,13 +12,45 @@ use Rattle.boot.proofs.Good.{byte-can}
 use Rattle.boot.proofs.Session.decide_byte.Statement.{statement}
 use Rattle.boot.proofs.Session.decide_byte.Tie as tie
 
-pub decide-byte-spec : {M : Type 1} → statement M
+heard-requires : tie.Need-heard-requires
+heard-requires c κs =
+    let then1 = c .before .before .before in
+    let after-on = then1 .before in
+    let start = after-on .before .before in (
+      sound-taken (start .args .self) (start .pre .0),
+      uart-expects (start .args .self) (start .pre .0) (rw (← after-on .on .ensures, then1 .if1 .taken) tt),
+      omega arith,
+      omega arith,
+    )
+
+returns : tie.Need-returns
 unfolding decideByte connected UC.heard if_gives_else_
+returns c =
+    let then1 = c .before .before .before .before in
+    let after-on = then1 .before in
+    let start = after-on .before .before in
+    let e : c .heard .result ≡ decideByte (start .args .self) (start .args .usd .now) (start .args .byte) =
+    rw (← after-on .on .ensures, then1 .if1 .taken, ← ap (λ (s : Session). s .staged) (start .pre .1)) (c .heard .ensures) in
+    let g = byte-can (start .args .byte) (start .args .self) (start .args .usd .now) (start .pre .1) e (start .pre .0) (start .pre .3) in
+    (e, g .sayable, g .fits)
+
+returns-2 : tie.Need-returns-2
+unfolding decideByte connected UC.heard if_gives_else_
+returns-2 c =
+    let else1 = c .before in
+    let after-on = else1 .before in
+    let start = after-on .before .before in
+    let e : c .unconnected .result ≡ decideByte (start .args .self) (start .args .usd .now) (start .args .byte) =
+    rw (← after-on .on .ensures, else1 .if1 .left) (c .unconnected .ensures) in
+    let g = byte-can (start .args .byte) (start .args .self) (start .args .usd .now) (start .pre .1) e (start .pre .0) (start .pre .3) in
+    (e, g .sayable, g .fits)
+
+pub decide-byte-spec : {M : Type 1} → statement M
 decide-byte-spec =
     tie.close
     (tie.spec
     (λ c κs. search needs)
-    (λ c κs. (sound-taken (c .before .before .before .before .before .before .args .self) (c .before .before .before .before .before .before .pre .0), uart-expects (c .before .before .before .before .before .before .args .self) (c .before .before .before .before .before .before .pre .0) (rw (← (c .before .before .before .before .on .ensures), (c .before .before .before .if1 .taken)) tt), omega arith, omega arith))
+    heard-requires
     (λ c κs. search needs)
-    (λ c. let e : (c .heard .result) ≡ decideByte (c .before .before .before .before .before .before .before .args .self) (c .before .before .before .before .before .before .before .args .usd .now) (c .before .before .before .before .before .before .before .args .byte) = rw (← (c .before .before .before .before .before .on .ensures), (c .before .before .before .before .if1 .taken), ← ap (λ (s : Session). s .staged) (c .before .before .before .before .before .before .before .pre .1)) (c .heard .ensures) in let g = byte-can (c .before .before .before .before .before .before .before .args .byte) (c .before .before .before .before .before .before .before .args .self) (c .before .before .before .before .before .before .before .args .usd .now) (c .before .before .before .before .before .before .before .pre .1) e (c .before .before .before .before .before .before .before .pre .0) (c .before .before .before .before .before .before .before .pre .3) in (e, g .sayable, g .fits))
-    (λ c. let e : (c .unconnected .result) ≡ decideByte (c .before .before .before .before .args .self) (c .before .before .before .before .args .usd .now) (c .before .before .before .before .args .byte) = rw (← (c .before .before .on .ensures), (c .before .if1 .left)) (c .unconnected .ensures) in let g = byte-can (c .before .before .before .before .args .byte) (c .before .before .before .before .args .self) (c .before .before .before .before .args .usd .now) (c .before .before .before .before .pre .1) e (c .before .before .before .before .pre .0) (c .before .before .before .before .pre .3) in (e, g .sayable, g .fits)))
+    returns
+    returns-2)

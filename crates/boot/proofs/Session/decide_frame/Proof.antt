@@ -14,13 +14,55 @@ use Rattle.boot.proofs.Good.{frame-can}
 use Rattle.boot.proofs.Session.decide_frame.Statement.{statement}
 use Rattle.boot.proofs.Session.decide_frame.Tie as tie
 
-pub decide-frame-spec : {M : Type 1} → statement M
+heard-requires : tie.Need-heard-requires
+heard-requires c κs =
+    let then1 = c .before .before .before in
+    let after-on = then1 .before in
+    let start = after-on .before .before .before in (
+      sound-taken (start .args .self) (start .pre .0),
+      can-expects (start .args .self) (start .pre .0) (rw (← after-on .on .ensures, then1 .if1 .taken) tt),
+      omega arith,
+      omega arith,
+      start .pre .3,
+    )
+
+returns : tie.Need-returns
 unfolding decideFrame connected CC.heard if_gives_else_
+returns c =
+    let then1 = c .before .before .before .before in
+    let after-on = then1 .before in
+    let start = after-on .before .before .before in
+    let e : c .heard .result ≡ decideFrame (start .args .self) (start .args .usd .now) (frameOf (start .args .id) (start .args .carried .now)) =
+    rw (
+      ← after-on .on .ensures,
+      then1 .if1 .taken,
+      take-length (start .args .carried .now),
+      ← ap (λ (s : Session). s .staged) (start .pre .1),
+    ) (c .heard .ensures) in
+    let g =
+    frame-can (start .args .id) (start .args .carried .now) (start .args .self) (start .args .usd .now) (start .pre .1) e
+    (start .pre .0) (start .pre .4) in
+    (e, g .sayable, g .fits)
+
+returns-2 : tie.Need-returns-2
+unfolding decideFrame connected CC.heard if_gives_else_
+returns-2 c =
+    let else1 = c .before in
+    let after-on = else1 .before in
+    let start = after-on .before .before .before in
+    let e : c .unconnected .result ≡ decideFrame (start .args .self) (start .args .usd .now) (frameOf (start .args .id) (start .args .carried .now)) =
+    rw (← after-on .on .ensures, else1 .if1 .left) (c .unconnected .ensures) in
+    let g =
+    frame-can (start .args .id) (start .args .carried .now) (start .args .self) (start .args .usd .now) (start .pre .1) e
+    (start .pre .0) (start .pre .4) in
+    (e, g .sayable, g .fits)
+
+pub decide-frame-spec : {M : Type 1} → statement M
 decide-frame-spec =
     tie.close
     (tie.spec
     (λ c κs. search needs)
-    (λ c κs. (sound-taken (c .before .before .before .before .before .before .before .args .self) (c .before .before .before .before .before .before .before .pre .0), can-expects (c .before .before .before .before .before .before .before .args .self) (c .before .before .before .before .before .before .before .pre .0) (rw (← (c .before .before .before .before .on .ensures), (c .before .before .before .if1 .taken)) tt), omega arith, omega arith, (c .before .before .before .before .before .before .before .pre .3)))
+    heard-requires
     (λ c κs. search needs)
-    (λ c. let e : (c .heard .result) ≡ decideFrame (c .before .before .before .before .before .before .before .before .args .self) (c .before .before .before .before .before .before .before .before .args .usd .now) (frameOf (c .before .before .before .before .before .before .before .before .args .id) (c .before .before .before .before .before .before .before .before .args .carried .now)) = rw (← (c .before .before .before .before .before .on .ensures), (c .before .before .before .before .if1 .taken), take-length (c .before .before .before .before .before .before .before .before .args .carried .now), ← ap (λ (s : Session). s .staged) (c .before .before .before .before .before .before .before .before .pre .1)) (c .heard .ensures) in let g = frame-can (c .before .before .before .before .before .before .before .before .args .id) (c .before .before .before .before .before .before .before .before .args .carried .now) (c .before .before .before .before .before .before .before .before .args .self) (c .before .before .before .before .before .before .before .before .args .usd .now) (c .before .before .before .before .before .before .before .before .pre .1) e (c .before .before .before .before .before .before .before .before .pre .0) (c .before .before .before .before .before .before .before .before .pre .4) in (e, g .sayable, g .fits))
-    (λ c. let e : (c .unconnected .result) ≡ decideFrame (c .before .before .before .before .before .args .self) (c .before .before .before .before .before .args .usd .now) (frameOf (c .before .before .before .before .before .args .id) (c .before .before .before .before .before .args .carried .now)) = rw (← (c .before .before .on .ensures), (c .before .if1 .left)) (c .unconnected .ensures) in let g = frame-can (c .before .before .before .before .before .args .id) (c .before .before .before .before .before .args .carried .now) (c .before .before .before .before .before .args .self) (c .before .before .before .before .before .args .usd .now) (c .before .before .before .before .before .pre .1) e (c .before .before .before .before .before .pre .0) (c .before .before .before .before .before .pre .4) in (e, g .sayable, g .fits)))
+    returns
+    returns-2)

@@ -3,6 +3,14 @@ use borrow.Author.Needs.{needs}
 use Rattle.boot.proofs.Session.frame_cause.Statement.{statement}
 use Rattle.boot.proofs.Session.frame_cause.Tie as tie
 
+returns : tie.Need-returns
+returns c =
+    let after-is-frame = c .before in
+    let after-has-room = after-is-frame .before in
+    let after-lengths-right = after-has-room .before in
+    rw (← after-lengths-right .lengths-right .ensures, ← after-has-room .has-room .ensures, ← after-is-frame .is-frame .ensures)
+    (c .cause .ensures)
+
 pub frame-cause-spec : {M : Type 1} → statement M
 frame-cause-spec =
     tie.close
@@ -11,4 +19,4 @@ frame-cause-spec =
     (λ c κs. search needs)
     (λ c κs. search needs)
     (λ c κs. search needs)
-    (λ c. rw (← (c .before .before .before .lengths-right .ensures), ← (c .before .before .has-room .ensures), ← (c .before .is-frame .ensures)) (c .cause .ensures)))
+    returns)

@@ -8,4 +8,4 @@ gather-spec =
     tie.close
     (tie.spec
     (λ c κs. search needs)
-    (λ c. rw ((c .gather .ensures .0), (c .gather .ensures .1))))
+    (λ c. rw (c .gather .ensures .0, c .gather .ensures .1)))

@@ -11,4 +11,4 @@ on-spec =
     tie.close
     (tie.spec
     (λ c κs. search needs)
-    (λ c. ap (λ (n : ℕ). eqb ((c .before .before .args .self .carrier)) n) (c .before .number .ensures)))
+    (λ c. ap (λ (n : ℕ). eqb (c .before .before .args .self .carrier) n) (c .before .number .ensures)))

@@ -10,7 +10,7 @@ own-cause-spec =
     tie.close
     (tie.spec
     (λ c κs. search needs)
-    (λ c. rw (← (c .before .sound .ensures), (c .if1 .taken)))
+    (λ c. rw (← c .before .sound .ensures, c .if1 .taken))
     (λ c κs. search needs)
-    (λ c. rw (← (c .before .before .before .sound .ensures), (c .before .before .if1 .left), ← (c .before .on .ensures), (c .if2 .taken)))
-    (λ c. rw (← (c .before .before .before .sound .ensures), (c .before .before .if1 .left), ← (c .before .on .ensures), (c .if2 .left))))
+    (λ c. rw (← c .before .before .before .sound .ensures, c .before .before .if1 .left, ← c .before .on .ensures, c .if2 .taken))
+    (λ c. rw (← c .before .before .before .sound .ensures, c .before .before .if1 .left, ← c .before .on .ensures, c .if2 .left)))

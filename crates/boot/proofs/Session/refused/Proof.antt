@@ -8,4 +8,4 @@ refused-spec =
     tie.close
     (tie.spec
     (λ c κs. search needs)
-    (λ c. rw (← (c .number .ensures))))
+    (λ c. rw (← c .number .ensures)))

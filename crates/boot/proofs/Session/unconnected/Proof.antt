@@ -12,5 +12,5 @@ unconnected-spec =
     (λ c κs. search needs)
     (λ c κs. search needs)
     (λ c κs. search needs)
-    (λ c. rw (← (c .before .before .on .ensures), (c .before .if1 .taken)) ((c .answer .ensures)))
-    (λ c. rw (← (c .before .before .on .ensures), (c .before .if1 .left)) ((c .answer2 .ensures))))
+    (λ c. rw (← c .before .before .on .ensures, c .before .if1 .taken) (c .answer .ensures))
+    (λ c. rw (← c .before .before .on .ensures, c .before .if1 .left) (c .answer2 .ensures)))

@@ -8,6 +8,14 @@ use Rattle.words.proofs.Tests.{past}
 use Rattle.can.proofs.Step.of.Statement.{statement}
 use Rattle.can.proofs.Step.of.Tie as tie
 
+returns-5 : tie.Need-returns-5
+returns-5 c =
+    let start = c .before in
+    sym (List·getD-eq-default steps Idle {n = start .args .number}
+    (past 3 (start .args .number) (past 2 (start .args .number) (past 1 (start .args .number)
+    (past 0 (start .args .number) (omega arith) (c .match .rest .0 .0 .0 .1)) (c .match .rest .0 .0 .1)) (c .match .rest .0 .1))
+    (c .match .rest .1)))
+
 pub of-spec : {M : Type 1} → statement M
 of-spec =
     tie.close
@@ -16,4 +24,4 @@ of-spec =
     (λ c. rw (c .match .keys2))
     (λ c. rw (c .match .keys3))
     (λ c. rw (c .match .keys4))
-    (λ c. sym (List·getD-eq-default steps Idle {n = c .before .args .number} (past 3 (c .before .args .number) (past 2 (c .before .args .number) (past 1 (c .before .args .number) (past 0 (c .before .args .number) (omega arith) (c .match .rest .0 .0 .0 .1)) (c .match .rest .0 .0 .1)) (c .match .rest .0 .1)) (c .match .rest .1)))))
+    returns-5)

@@ -10,6 +10,47 @@ use Rattle.can.proofs.Carried.{tested}
 use Rattle.can_deciding.proofs.obey.commanded.Statement.{statement}
 use Rattle.can_deciding.proofs.obey.commanded.Tie as tie
 
+obeyed-requires : tie.Need-obeyed-requires
+obeyed-requires c κs =
+    let after-lookup = c .before .before in
+    let after-dlc-right = after-lookup .before .before in
+    let after-look-up = after-dlc-right .before in (
+      omega arith,
+      subst (λ (t : Bool). T t) (sym (tested _ _ _ _ _ (after-look-up .look-up .ensures) (after-lookup .lookup .given .1)
+          (after-dlc-right .dlc-right .ensures) ∙ c .if1 .taken)) tt,
+    )
+
+returns : tie.Need-returns
+unfolding commanded if_gives_else_
+returns c =
+    let after-obeyed = c .before in
+    let then1 = after-obeyed .before in
+    let after-lookup = then1 .before .before in
+    let after-dlc-right = after-lookup .before .before in
+    let after-look-up = after-dlc-right .before in
+    rw (
+      ← after-look-up .look-up .ensures,
+      after-lookup .lookup .given .1,
+      tested _ _ _ _ _ (after-look-up .look-up .ensures) (after-lookup .lookup .given .1) (after-dlc-right .dlc-right .ensures),
+      then1 .if1 .taken,
+      ← after-obeyed .obeyed .ensures,
+    )
+    (c .unless-protected .ensures)
+
+returns-2 : tie.Need-returns-2
+unfolding commanded if_gives_else_
+returns-2 c =
+    let else1 = c .before in
+    let after-lookup = else1 .before .before in
+    let after-dlc-right = after-lookup .before .before in
+    let after-look-up = after-dlc-right .before in
+    rw (
+      ← after-look-up .look-up .ensures,
+      after-lookup .lookup .given .1,
+      tested _ _ _ _ _ (after-look-up .look-up .ensures) (after-lookup .lookup .given .1) (after-dlc-right .dlc-right .ensures),
+      else1 .if1 .left,
+    ) (c .nack .ensures)
+
 pub commanded-spec : {M : Type 1} → statement M
 unfolding commanded if_gives_else_
 commanded-spec =
@@ -18,11 +59,11 @@ commanded-spec =
     (λ c κs. search needs)
     (λ c κs. search needs)
     (λ c. search needs)
-    (λ c κs. (omega arith, subst (λ (t : Bool). T t) (sym (tested _ _ _ _ _ (c .before .before .before .before .before .look-up .ensures) (c .before .before .lookup .given .1) (c .before .before .before .before .dlc-right .ensures) ∙ (c .if1 .taken))) tt))
+    obeyed-requires
     (λ c κs. search needs)
     (λ c κs. search needs)
     (λ c. search needs)
     (λ c κs. search needs)
-    (λ c. rw (← c .before .before .before .before .before .before .before .look-up .ensures, c .before .before .before .before .lookup .given .1, tested _ _ _ _ _ (c .before .before .before .before .before .before .before .look-up .ensures) (c .before .before .before .before .lookup .given .1) (c .before .before .before .before .before .before .dlc-right .ensures), c .before .before .if1 .taken, ← c .before .obeyed .ensures) (c .unless-protected .ensures))
-    (λ c. rw (← c .before .before .before .before .before .before .look-up .ensures, c .before .before .before .lookup .given .1, tested _ _ _ _ _ (c .before .before .before .before .before .before .look-up .ensures) (c .before .before .before .lookup .given .1) (c .before .before .before .before .before .dlc-right .ensures), c .before .if1 .left) (c .nack .ensures))
+    returns
+    returns-2
     (λ c. rw (← c .before .before .before .before .look-up .ensures, c .before .enum-told .given .1) (c .nack2 .ensures)))

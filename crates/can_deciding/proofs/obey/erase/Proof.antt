@@ -8,14 +8,32 @@ use Rattle.can.proofs.Carried.{last-two}
 use Rattle.can_deciding.proofs.obey.erase.Statement.{statement}
 use Rattle.can_deciding.proofs.obey.erase.Tie as tie
 
+shared-slice-read-number2-2 : tie.Need-shared-slice-read-number2-2
+shared-slice-read-number2-2 c =
+    let start = c .before .before .before .before in
+    let h = eqb→eq (length (start .args .carried .now)) 2 (start .pre .1) in
+    omega arith
+
+returns : tie.Need-returns
+unfolding obeyed
+returns c =
+    let after-selector-of = c .before in
+    let after-number2 = after-selector-of .before in
+    let start = after-number2 .before .before .before .before .before in
+    rw (
+      last-two 0 (start .args .carried .now) (eqb→eq (length (start .args .carried .now)) 2 (start .pre .1)),
+      ← after-number2 .number2 .ensures,
+      ← after-selector-of .selector-of .ensures,
+    ) (c .selected .ensures)
+
 pub erase-spec : {M : Type 1} → statement M
 unfolding obeyed
 erase-spec =
     tie.close
     (tie.spec
     (λ c. let h = eqb→eq (length (c .before .before .before .args .carried .now)) 2 (c .before .before .before .pre .1) in omega arith)
-    (λ c. let h = eqb→eq (length (c .before .before .before .before .args .carried .now)) 2 (c .before .before .before .before .pre .1) in omega arith)
+    shared-slice-read-number2-2
     (λ c κs. search needs)
     (λ c κs. search needs)
     (λ c κs. search needs)
-    (λ c. rw (last-two 0 (c .before .before .before .before .before .before .before .args .carried .now) (eqb→eq (length (c .before .before .before .before .before .before .before .args .carried .now)) 2 (c .before .before .before .before .before .before .before .pre .1)), ← c .before .before .number2 .ensures, ← c .before .selector-of .ensures) (c .selected .ensures)))
+    returns)

@@ -8,15 +8,32 @@ use Rattle.can.proofs.Carried.{last-two}
 use Rattle.can_deciding.proofs.obey.firmware_crc.Statement.{statement}
 use Rattle.can_deciding.proofs.obey.firmware_crc.Tie as tie
 
-pub firmware-crc-spec : {M : Type 1} → statement M
+shared-slice-read-long-count-2 : tie.Need-shared-slice-read-long-count-2
+shared-slice-read-long-count-2 c =
+    let start = c .before .before .before .before in
+    let h = eqb→eq (length (start .args .carried .now)) 6 (start .pre) in
+    omega arith
+
+returns : tie.Need-returns
 unfolding obeyed
+returns c =
+    let after-long-count = c .before in
+    let after-address-in = after-long-count .before .before .before in
+    let start = after-address-in .before .before in
+    rw (
+      last-two 4 (start .args .carried .now) (eqb→eq (length (start .args .carried .now)) 6 (start .pre)),
+      ← after-address-in .address-in .ensures,
+      ← after-long-count .long-count .ensures .0,
+    ) (c .sum .ensures)
+
+pub firmware-crc-spec : {M : Type 1} → statement M
 firmware-crc-spec =
     tie.close
     (tie.spec
     (λ c κs. let h = eqb→eq (length (c .before .args .carried .now)) 6 (c .before .pre) in omega arith)
     (λ c. let h = eqb→eq (length (c .before .before .before .args .carried .now)) 6 (c .before .before .before .pre) in omega arith)
     (λ c. search needs)
-    (λ c. let h = eqb→eq (length (c .before .before .before .before .args .carried .now)) 6 (c .before .before .before .before .pre) in omega arith)
+    shared-slice-read-long-count-2
     (λ c κs. search needs)
     (λ c κs. search needs)
-    (λ c. rw (last-two 4 (c .before .before .before .before .before .before .args .carried .now) (eqb→eq (length (c .before .before .before .before .before .before .args .carried .now)) 6 (c .before .before .before .before .before .before .pre)), ← c .before .before .before .before .address-in .ensures, ← c .before .long-count .ensures .0) (c .sum .ensures)))
+    returns)

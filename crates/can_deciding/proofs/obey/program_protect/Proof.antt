@@ -8,8 +8,19 @@ use Rattle.can.proofs.Carried.{last-number}
 use Rattle.can_deciding.proofs.obey.program_protect.Statement.{statement}
 use Rattle.can_deciding.proofs.obey.program_protect.Tie as tie
 
-pub program-protect-spec : {M : Type 1} → statement M
+returns : tie.Need-returns
 unfolding obeyed
+returns c =
+    let after-count-of = c .before in
+    let after-number = after-count-of .before .before in
+    let start = after-number .before .before in
+    rw (
+      last-number 0 (start .args .carried .now) (eqb→eq (length (start .args .carried .now)) 1 (start .pre)),
+      ← after-number .number .ensures,
+      ← after-count-of .count-of .ensures .0,
+    ) (c .answer .ensures)
+
+pub program-protect-spec : {M : Type 1} → statement M
 program-protect-spec =
     tie.close
     (tie.spec
@@ -17,4 +28,4 @@ program-protect-spec =
     (λ c. let h = eqb→eq (length (c .before .before .before .args .carried .now)) 1 (c .before .before .before .pre) in omega arith)
     (λ c κs. search needs)
     (λ c κs. search needs)
-    (λ c. rw (last-number 0 (c .before .before .before .before .before .args .carried .now) (eqb→eq (length (c .before .before .before .before .before .args .carried .now)) 1 (c .before .before .before .before .before .pre)), ← c .before .before .before .number .ensures, ← c .before .count-of .ensures .0) (c .answer .ensures)))
+    returns)

@@ -8,8 +8,19 @@ use Rattle.can.proofs.Carried.{last-number}
 use Rattle.can_deciding.proofs.obey.read_memory.Statement.{statement}
 use Rattle.can_deciding.proofs.obey.read_memory.Tie as tie
 
-pub read-memory-spec : {M : Type 1} → statement M
+returns : tie.Need-returns
 unfolding obeyed
+returns c =
+    let after-count-of = c .before in
+    let after-address-in = after-count-of .before .before in
+    let start = after-address-in .before .before in
+    rw (
+      last-number 4 (start .args .carried .now) (eqb→eq (length (start .args .carried .now)) 5 (start .pre)),
+      ← after-address-in .address-in .ensures,
+      ← after-count-of .count-of .ensures .0,
+    ) (c .read .ensures)
+
+pub read-memory-spec : {M : Type 1} → statement M
 read-memory-spec =
     tie.close
     (tie.spec
@@ -17,4 +28,4 @@ read-memory-spec =
     (λ c. let h = eqb→eq (length (c .before .before .before .args .carried .now)) 5 (c .before .before .before .pre) in omega arith)
     (λ c κs. search needs)
     (λ c κs. search needs)
-    (λ c. rw (last-number 4 (c .before .before .before .before .before .args .carried .now) (eqb→eq (length (c .before .before .before .before .before .args .carried .now)) 5 (c .before .before .before .before .before .pre)), ← c .before .before .before .address-in .ensures, ← c .before .count-of .ensures .0) (c .read .ensures)))
+    returns)

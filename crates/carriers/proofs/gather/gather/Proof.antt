@@ -5,6 +5,15 @@ use Rattle.command.proofs.Progress.{so-many-fit}
 use Rattle.carriers.proofs.gather.gather.Statement.{statement}
 use Rattle.carriers.proofs.gather.gather.Tie as tie
 
+returns : tie.Need-returns
+returns c =
+    let after-least = c .before .before in
+    let start = after-least .before .before in
+    let f =
+    so-many-fit (progressAt (start .args .taken) (start .args .expected) 0 (start .args .staged .now)) (start .args .new .now)
+    (after-least .least .result) (after-least .least .ensures) in
+    (rw (f .0), rw (c .stage .ensures, f .1))
+
 pub gather-spec : {M : Type 1} → statement M
 gather-spec =
     tie.close
@@ -13,4 +22,4 @@ gather-spec =
     (λ c κs. search needs)
     (λ c κs. search needs)
     (λ c. search needs)
-    (λ c. let f = so-many-fit (progressAt (c .before .before .before .before .args .taken) (c .before .before .before .before .args .expected) 0 (c .before .before .before .before .args .staged .now)) (c .before .before .before .before .args .new .now) (c .before .before .least .result) (c .before .before .least .ensures) in (rw (f .0), rw ((c .stage .ensures), f .1))))
+    returns)

@@ -6,6 +6,14 @@ use Rattle.deciding.proofs.Arms.{no-sum}
 use Rattle.deciding.proofs.sum.sum_at.Statement.{statement}
 use Rattle.deciding.proofs.sum.sum_at.Tie as tie
 
+returns-2 : tie.Need-returns-2
+returns-2 c =
+    let at-match2-keys2 = c .before in
+    let after-place = at-match2-keys2 .before .before in
+    let start = after-place .before .before in
+    rw (after-place .place .given .1) (c .nack .ensures ∙ sym (no-sum (after-place .place .given .0 .0) (at-match2-keys2 .match2 .keys2)
+    (after-place .place .given .0 .1 .0) (start .args .n)))
+
 pub sum-at-spec : {M : Type 1} → statement M
 unfolding sumAt
 sum-at-spec =
@@ -18,5 +26,5 @@ sum-at-spec =
     (λ c. search needs)
     (λ c κs. search needs)
     (λ c. rw (c .before .before .before .before .place .given .1, c .before .enum-told .given .1) (c .answer .ensures))
-    (λ c. rw (c .before .before .before .place .given .1) (c .nack .ensures ∙ sym (no-sum (c .before .before .before .place .given .0 .0) (c .before .match2 .keys2) (c .before .before .before .place .given .0 .1 .0) (c .before .before .before .before .before .args .n))))
+    returns-2
     (λ c. rw (c .before .enum-told2 .given .1) (c .nack2 .ensures)))

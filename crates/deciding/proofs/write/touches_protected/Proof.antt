@@ -18,4 +18,4 @@ touches-protected-spec =
     (λ c. search needs)
     (λ c. search needs)
     (λ c κs. omega (arith, ap (λ (k : Sector). k .0) (c .before .before .before .at .ensures), ap (λ (k : Sector). k .0) (c .before .before .at2 .ensures)))
-    (λ c. rw ((c .before .before .before .before .at .ensures), (c .before .before .before .at2 .ensures)) at (c .any-write-protected .ensures)))
+    (λ c. rw (c .before .before .before .before .at .ensures, c .before .before .before .at2 .ensures) at (c .any-write-protected .ensures)))

@@ -7,6 +7,18 @@ use Rattle.lines.proofs.Reading.{low-digit, letter}
 use Rattle.lines.proofs.digits.value.Statement.{statement}
 use Rattle.lines.proofs.digits.value.Tie as tie
 
+returns : tie.Need-returns
+returns c =
+    let start = c .before in
+    let l = low-digit (start .args .c) (start .pre) in
+    (rw (le-leb (start .args .c) 57 (c .if1 .taken)) refl, omega arith)
+
+returns-2 : tie.Need-returns-2
+returns-2 c =
+    let start = c .before in
+    let l = letter (start .args .c) (start .pre) (c .if1 .left) in
+    (rw (lt-leb (start .args .c) 57 (c .if1 .left)) (omega arith), omega arith)
+
 pub value-spec : {M : Type 1} → statement M
 value-spec =
     tie.close
@@ -14,5 +26,5 @@ value-spec =
     (λ c. let l = low-digit (c .before .args .c) (c .before .pre) in omega arith)
     (λ c. let l = letter (c .before .args .c) (c .before .pre) (c .if1 .left) in omega arith)
     (λ c. search needs)
-    (λ c. let l = low-digit (c .before .args .c) (c .before .pre) in (rw (le-leb (c .before .args .c) 57 (c .if1 .taken)) refl, omega arith))
-    (λ c. let l = letter (c .before .args .c) (c .before .pre) (c .if1 .left) in (rw (lt-leb (c .before .args .c) 57 (c .if1 .left)) (omega arith), omega arith)))
+    returns
+    returns-2)

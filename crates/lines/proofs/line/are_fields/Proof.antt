@@ -16,6 +16,37 @@ Inv-loop rest n at₀ at = (at ≤ n) × (areFields (drop at rest) ≡ areFields
 abbrev μ-loop : tie.MeasureT-loop
 μ-loop rest n at₀ at = n - at
 
+returns : tie.Need-returns Inv-loop μ-loop
+returns c =
+    let after-is-field = c .before in
+    let at-loop = after-is-field .before .before .before .before .before in
+    let start = at-loop .before .before in
+    rw (
+      field-first (start .args .rest .now) (at-loop .loop .at) (omega arith),
+      ← after-is-field .is-field .ensures,
+      not-true (after-is-field .is-field .result) (c .if1 .taken),
+    ) at (at-loop .loop .inv .1)
+
+loop-again : tie.Need-loop-again Inv-loop μ-loop
+loop-again c =
+    let after-is-field = c .before in
+    let at-loop = after-is-field .before .before .before .before .before in
+    let start = at-loop .before .before in (
+      omega arith,
+      rw (
+        field-first (start .args .rest .now) (at-loop .loop .at) (omega arith),
+        ← after-is-field .is-field .ensures,
+        not-false (after-is-field .is-field .result) (c .if1 .left),
+      ) at (at-loop .loop .inv .1),
+    )
+
+returns-2 : tie.Need-returns-2 Inv-loop μ-loop
+returns-2 c =
+    let at-loop = c .before in
+    let start = at-loop .before .before in
+    short-fields (drop (at-loop .loop .at) (start .args .rest .now)) (at-loop .loop .at) (length (start .args .rest .now))
+    (simp length-drop (omega arith)) (simp length-drop (omega arith)) ∙ at-loop .loop .inv .1
+
 pub are-fields-spec : {M : Type 1} → statement M
 are-fields-spec =
     tie.close
@@ -30,8 +61,8 @@ are-fields-spec =
     (λ c. omega arith)
     (λ c. omega arith)
     (λ c κs. search needs)
-    (λ c. rw (field-first (c .before .before .before .before .before .before .before .before .args .rest .now) (c .before .before .before .before .before .before .loop .at) (omega arith), ← (c .before .is-field .ensures), not-true (c .before .is-field .result) (c .if1 .taken)) at (c .before .before .before .before .before .before .loop .inv .1))
+    returns
     (λ c. omega arith)
     (λ c. omega arith)
-    (λ c. (omega arith, rw (field-first (c .before .before .before .before .before .before .before .before .args .rest .now) (c .before .before .before .before .before .before .loop .at) (omega arith), ← (c .before .is-field .ensures), not-false (c .before .is-field .result) (c .if1 .left)) at (c .before .before .before .before .before .before .loop .inv .1)))
-    (λ c. short-fields (drop (c .before .loop .at) (c .before .before .before .args .rest .now)) (c .before .loop .at) (length (c .before .before .before .args .rest .now)) (simp length-drop (omega arith)) (simp length-drop (omega arith)) ∙ (c .before .loop .inv .1)))
+    loop-again
+    returns-2)

@@ -8,6 +8,22 @@ use Rattle.words.proofs.Slices.{to-the-end}
 use Rattle.lines.proofs.line.are_frame.Statement.{statement}
 use Rattle.lines.proofs.line.are_frame.Tie as tie
 
+returns-2 : tie.Need-returns-2
+returns-2 c =
+    let after-is-digit3 = c .before .before in
+    let after-is-digit2 = after-is-digit3 .before .before in
+    let after-is-digit = after-is-digit2 .before .before in
+    let start = after-is-digit .before .before .before .before .before in
+    let l = start .args .rest .now in
+    rw (
+      le-leb 4 (length l) (omega arith),
+      after-is-digit .is-digit .ensures,
+      after-is-digit2 .is-digit2 .ensures,
+      after-is-digit3 .is-digit3 .ensures,
+      c .are-fields .ensures,
+      to-the-end 4 l,
+    ) refl
+
 pub are-frame-spec : {M : Type 1} → statement M
 are-frame-spec =
     tie.close
@@ -26,4 +42,4 @@ are-frame-spec =
     (λ c κs. search needs)
     (λ c. search needs)
     (λ c. search needs)
-    (λ c. let l = (c .before .before .before .before .before .before .before .before .before .before .before .args .rest .now) in rw (le-leb 4 (length l) (omega arith), (c .before .before .before .before .before .before .is-digit .ensures), (c .before .before .before .before .is-digit2 .ensures), (c .before .before .is-digit3 .ensures), (c .are-fields .ensures), to-the-end 4 l) refl))
+    returns-2)

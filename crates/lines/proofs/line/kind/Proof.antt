@@ -11,6 +11,13 @@ use Rattle.lines.proofs.Lines.{kind-empty, kind-within, kind-beyond}
 use Rattle.lines.proofs.line.kind.Statement.{statement}
 use Rattle.lines.proofs.line.kind.Tie as tie
 
+returns-2 : tie.Need-returns-2
+returns-2 c =
+    let then2 = c .before .before .before in
+    let start = then2 .before .before .before in
+    c .kind-by .ensures ∙ ap (λ (l : List ℕ). kindBy (getD (start .args .line .now) 0 0) l) (to-the-end 1 (start .args .line .now)) ∙
+    kind-within (start .args .line .now) (omega arith) (then2 .if2 .taken)
+
 pub kind-spec : {M : Type 1} → statement M
 kind-spec =
     tie.close
@@ -21,5 +28,5 @@ kind-spec =
     (λ c. search needs)
     (λ c. search needs)
     (λ c κs. search needs)
-    (λ c. (c .kind-by .ensures) ∙ ap (λ (l : List ℕ). kindBy (getD (c .before .before .before .before .before .before .args .line .now) 0 0) l) (to-the-end 1 (c .before .before .before .before .before .before .args .line .now)) ∙ kind-within (c .before .before .before .before .before .before .args .line .now) (omega arith) (c .before .before .before .if2 .taken))
+    returns-2
     (λ c. kind-beyond (c .before .before .before .args .line .now) (c .if2 .left)))

@@ -13,10 +13,46 @@ use Rattle.list_deciding.proofs.erase.all_numbered.Statement.{statement
 use Rattle.list_deciding.proofs.erase.all_numbered.Tie as tie
 
 abbrev Inv-loop : tie.InvT-loop
-Inv-loop staged x end j₀ j = (j ≤ end) × (j % 2 ≡ 0) × (all isSector (numbered (slice j end staged)) ≡ all isSector (numbered (take end staged)))
+Inv-loop staged x end j₀ j =
+    (j ≤ end)
+    × (j % 2 ≡ 0)
+    × (all isSector (numbered (slice j end staged)) ≡ all isSector (numbered (take end staged)))
 
 abbrev μ-loop : tie.MeasureT-loop
 μ-loop staged x end j₀ j = end - j
+
+returns : tie.Need-returns Inv-loop μ-loop
+returns c =
+    let after-number2 = c .before in
+    let at-loop = after-number2 .before .before .before .before in
+    let start = at-loop .before .before in
+    rw (
+      ← at-loop .loop .inv .2,
+      numbered-first (start .args .staged .now) (at-loop .loop .j) (2 * start .args .x)
+          (after-number2 .number2 .result) (after-number2 .number2 .ensures) (omega arith) (omega arith),
+      le-ltb (after-number2 .number2 .result) 32 (c .if1 .taken),
+    )
+
+loop-again : tie.Need-loop-again Inv-loop μ-loop
+loop-again c =
+    let after-number2 = c .before in
+    let at-loop = after-number2 .before .before .before .before in
+    let start = at-loop .before .before in (
+      omega arith,
+      omega arith,
+      rw (
+        numbered-first (start .args .staged .now) (at-loop .loop .j) (2 * start .args .x) (after-number2 .number2 .result)
+            (after-number2 .number2 .ensures) (omega arith) (omega arith),
+        lt-ltb (after-number2 .number2 .result) 32 (c .if1 .left),
+      ) at (at-loop .loop .inv .2),
+    )
+
+returns-2 : tie.Need-returns-2 Inv-loop μ-loop
+returns-2 c =
+    let at-loop = c .before in
+    let start = at-loop .before .before in
+    let e : at-loop .loop .j ≡ 2 * start .args .x = omega arith in
+    rw (e, slice-empty) at (at-loop .loop .inv .2)
 
 pub all-numbered-spec : {M : Type 1} → statement M
 all-numbered-spec =
@@ -31,8 +67,8 @@ all-numbered-spec =
     (λ c. omega arith)
     (λ c κs. search needs)
     (λ c. search needs)
-    (λ c. rw (← c .before .before .before .before .before .loop .inv .2, numbered-first (c .before .before .before .before .before .before .before .args .staged .now) (c .before .before .before .before .before .loop .j) (2 * c .before .before .before .before .before .before .before .args .x) (c .before .number2 .result) (c .before .number2 .ensures) (omega arith) (omega arith), le-ltb (c .before .number2 .result) 32 (c .if1 .taken)))
+    returns
     (λ c. omega arith)
     (λ c. omega arith)
-    (λ c. (omega arith, omega arith, rw (numbered-first (c .before .before .before .before .before .before .before .args .staged .now) (c .before .before .before .before .before .loop .j) (2 * c .before .before .before .before .before .before .before .args .x) (c .before .number2 .result) (c .before .number2 .ensures) (omega arith) (omega arith), lt-ltb (c .before .number2 .result) 32 (c .if1 .left)) at (c .before .before .before .before .before .loop .inv .2)))
-    (λ c. let e : c .before .loop .j ≡ 2 * c .before .before .before .args .x = omega arith in rw (e, slice-empty) at (c .before .loop .inv .2)))
+    loop-again
+    returns-2)

@@ -17,10 +17,65 @@ use Rattle.list_deciding.proofs.erase.any_numbered_protected.Statement.
 use Rattle.list_deciding.proofs.erase.any_numbered_protected.Tie as tie
 
 abbrev Inv-loop : tie.InvT-loop
-Inv-loop usd staged x end j₀ j = (j ≤ end) × (j % 2 ≡ 0) × T (all isSector (numbered (slice j end staged))) × (any (writeProtected usd) (numbered (slice j end staged)) ≡ any (writeProtected usd) (numbered (take end staged)))
+Inv-loop usd staged x end j₀ j =
+    (j ≤ end)
+    × (j % 2 ≡ 0)
+    × T (all isSector (numbered (slice j end staged)))
+    × (any (writeProtected usd) (numbered (slice j end staged)) ≡ any (writeProtected usd) (numbered (take end staged)))
 
 abbrev μ-loop : tie.MeasureT-loop
 μ-loop usd staged x end j₀ j = end - j
+
+write-protected-requires : tie.Need-write-protected-requires Inv-loop μ-loop
+write-protected-requires c κs =
+    let at-loop = c .before .before .before .before in
+    let start = at-loop .before .before .before in
+    let k = c .number2 .result in
+    let f =
+    numbered-first (start .args .staged .now) (at-loop .loop .j) (2 * start .args .x) k (c .number2 .ensures) (omega arith)
+    (omega arith) in (
+      omega arith,
+      both-left (isSector (sector k)) (all isSector (numbered (slice (at-loop .loop .j + 2) (2 * start .args .x)
+          (start .args .staged .now)))) (subst (λ (l : List Sector). T (all isSector l)) f (at-loop .loop .inv .2)),
+    )
+
+returns : tie.Need-returns Inv-loop μ-loop
+returns c =
+    let after-write-protected = c .before in
+    let after-number2 = after-write-protected .before in
+    let at-loop = after-number2 .before .before .before .before in
+    let start = at-loop .before .before .before in
+    rw (
+      ← at-loop .loop .inv .3,
+      numbered-first (start .args .staged .now) (at-loop .loop .j) (2 * start .args .x)
+          (after-number2 .number2 .result) (after-number2 .number2 .ensures) (omega arith) (omega arith),
+      ← after-write-protected .write-protected .ensures,
+      c .if1 .taken,
+    )
+
+loop-again : tie.Need-loop-again Inv-loop μ-loop
+loop-again c =
+    let after-write-protected = c .before in
+    let after-number2 = after-write-protected .before in
+    let at-loop = after-number2 .before .before .before .before in
+    let start = at-loop .before .before .before in
+    let k = after-number2 .number2 .result in
+    let f =
+    numbered-first (start .args .staged .now) (at-loop .loop .j) (2 * start .args .x) k (after-number2 .number2 .ensures) (omega arith)
+    (omega arith) in (
+      omega arith,
+      omega arith,
+      both-right (isSector (sector k)) (all isSector (numbered (slice (at-loop .loop .j + 2) (2 * start .args .x)
+          (start .args .staged .now)))) (subst (λ (l : List Sector). T (all isSector l)) f (at-loop .loop .inv .2)),
+      rw (f, ← after-write-protected .write-protected .ensures, c .if1 .left) at (at-loop .loop .inv .3),
+    )
+
+returns-2 : tie.Need-returns-2 Inv-loop μ-loop
+returns-2 c =
+    let at-loop = c .before in
+    let start = at-loop .before .before .before in
+    let e : at-loop .loop .j ≡ 2 * start .args .x = omega arith in
+    rw (e, slice-empty) at (at-loop .loop .inv .3)
 
 pub any-numbered-protected-spec : {M : Type 1} → statement M
 any-numbered-protected-spec =
@@ -34,9 +89,9 @@ any-numbered-protected-spec =
     (λ c. omega arith)
     (λ c. omega arith)
     (λ c κs. search needs)
-    (λ c κs. let k = c .number2 .result in let f = numbered-first (c .before .before .before .before .before .before .before .args .staged .now) (c .before .before .before .before .loop .j) (2 * c .before .before .before .before .before .before .before .args .x) k (c .number2 .ensures) (omega arith) (omega arith) in (omega arith, both-left (isSector (sector k)) (all isSector (numbered (slice (c .before .before .before .before .loop .j + 2) (2 * c .before .before .before .before .before .before .before .args .x) (c .before .before .before .before .before .before .before .args .staged .now)))) (subst (λ (l : List Sector). T (all isSector l)) f (c .before .before .before .before .loop .inv .2))))
-    (λ c. rw (← c .before .before .before .before .before .before .loop .inv .3, numbered-first (c .before .before .before .before .before .before .before .before .before .args .staged .now) (c .before .before .before .before .before .before .loop .j) (2 * c .before .before .before .before .before .before .before .before .before .args .x) (c .before .before .number2 .result) (c .before .before .number2 .ensures) (omega arith) (omega arith), ← c .before .write-protected .ensures, c .if1 .taken))
+    write-protected-requires
+    returns
     (λ c. omega arith)
     (λ c. omega arith)
-    (λ c. let k = c .before .before .number2 .result in let f = numbered-first (c .before .before .before .before .before .before .before .before .before .args .staged .now) (c .before .before .before .before .before .before .loop .j) (2 * c .before .before .before .before .before .before .before .before .before .args .x) k (c .before .before .number2 .ensures) (omega arith) (omega arith) in (omega arith, omega arith, both-right (isSector (sector k)) (all isSector (numbered (slice (c .before .before .before .before .before .before .loop .j + 2) (2 * c .before .before .before .before .before .before .before .before .before .args .x) (c .before .before .before .before .before .before .before .before .before .args .staged .now)))) (subst (λ (l : List Sector). T (all isSector l)) f (c .before .before .before .before .before .before .loop .inv .2)), rw (f, ← c .before .write-protected .ensures, c .if1 .left) at (c .before .before .before .before .before .before .loop .inv .3)))
-    (λ c. let e : c .before .loop .j ≡ 2 * c .before .before .before .before .args .x = omega arith in rw (e, slice-empty) at (c .before .loop .inv .3)))
+    loop-again
+    returns-2)

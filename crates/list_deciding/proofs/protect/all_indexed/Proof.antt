@@ -18,6 +18,27 @@ Inv-loop staged x i₀ i = (i ≤ x) × (all isSector (indexed (slice i x staged
 abbrev μ-loop : tie.MeasureT-loop
 μ-loop staged x i₀ i = x - i
 
+returns : tie.Need-returns Inv-loop μ-loop
+returns c =
+    let at-loop = c .before .before .before in
+    let start = at-loop .before in
+    rw (
+      ← at-loop .loop .inv .1,
+      indexed-first (start .args .staged .now) (at-loop .loop .i) (start .args .x) (omega arith) (omega arith),
+      le-ltb (getD (start .args .staged .now) (at-loop .loop .i) 0) 32 (c .if1 .taken),
+    )
+
+loop-again : tie.Need-loop-again Inv-loop μ-loop
+loop-again c =
+    let at-loop = c .before .before .before in
+    let start = at-loop .before in (
+      omega arith,
+      rw (
+        indexed-first (start .args .staged .now) (at-loop .loop .i) (start .args .x) (omega arith) (omega arith),
+        lt-ltb (getD (start .args .staged .now) (at-loop .loop .i) 0) 32 (c .if1 .left),
+      ) at (at-loop .loop .inv .1),
+    )
+
 pub all-indexed-spec : {M : Type 1} → statement M
 all-indexed-spec =
     tie.close
@@ -27,8 +48,8 @@ all-indexed-spec =
     (λ c. (omega arith, refl))
     (λ c. search needs)
     (λ c. omega arith)
-    (λ c. rw (← c .before .before .before .loop .inv .1, indexed-first (c .before .before .before .before .args .staged .now) (c .before .before .before .loop .i) (c .before .before .before .before .args .x) (omega arith) (omega arith), le-ltb (getD (c .before .before .before .before .args .staged .now) (c .before .before .before .loop .i) 0) 32 (c .if1 .taken)))
+    returns
     (λ c. omega arith)
     (λ c. omega arith)
-    (λ c. (omega arith, rw (indexed-first (c .before .before .before .before .args .staged .now) (c .before .before .before .loop .i) (c .before .before .before .before .args .x) (omega arith) (omega arith), lt-ltb (getD (c .before .before .before .before .args .staged .now) (c .before .before .before .loop .i) 0) 32 (c .if1 .left)) at (c .before .before .before .loop .inv .1)))
+    loop-again
     (λ c. let e : c .before .loop .i ≡ c .before .before .args .x = omega arith in rw (e, slice-empty) at (c .before .loop .inv .1)))

@@ -11,6 +11,50 @@ use Rattle.reply.proofs.Alone.{reply-alone, alone-room, said-taken}
 use Rattle.reply.proofs.in_frames.say.Statement.{statement}
 use Rattle.reply.proofs.in_frames.say.Tie as tie
 
+slice-aggregate-put-reply : tie.Need-slice-aggregate-put-reply
+slice-aggregate-put-reply c =
+    let after-say = c .before .before in
+    let after-commands = after-say .before .before in
+    let start = after-commands .before .before .before .before .before in
+    let m = memories (start .args .flash .now) (start .args .sram .now) (start .args .usd .now) in
+    let j = join (says commandBytes (start .args .reply) m) in
+    let s : Said j (after-say .say .result) (replicate 257 0) (after-say .say .last .1 .1 .1 .1 .1 .0) =
+    (after-say .say .ensures .0) commandBytes (after-commands .commands .ensures .1) in
+    let t = said-taken j (after-say .say .result) (replicate 257 0) (after-say .say .last .1 .1 .1 .1 .1 .0) s in
+    s .count ∙ sym (ap length t)
+
+put-reply-requires : tie.Need-put-reply-requires
+put-reply-requires c κs =
+    let after-piece-of = c .before in
+    let after-say = after-piece-of .before .before .before in
+    let after-commands = after-say .before .before in
+    let start = after-commands .before .before .before .before .before in
+    let m = memories (start .args .flash .now) (start .args .sram .now) (start .args .usd .now) in
+    let j = join (says commandBytes (start .args .reply) m) in
+    let s : Said j (after-say .say .result) (replicate 257 0) (after-say .say .last .1 .1 .1 .1 .1 .0) =
+    (after-say .say .ensures .0) commandBytes (after-commands .commands .ensures .1) in
+    let t = said-taken j (after-say .say .result) (replicate 257 0) (after-say .say .last .1 .1 .1 .1 .1 .0) s in
+    let r =
+    alone-room (start .args .id) (start .args .reply) (take (after-say .say .result) (after-say .say .last .1 .1 .1 .1 .1 .0))
+    (omega (arith, ap length t, s .count, after-say .say .ensures .1))
+    (λ f. omega (arith, ap length t, s .count, (after-say .say .ensures .2) f)) in
+    rw (after-piece-of .piece-of .ensures) (r .0, r .1, omega (arith, r .2, start .pre .2))
+
+returns : tie.Need-returns
+returns c =
+    let after-put-reply = c .before .before in
+    let after-piece-of = after-put-reply .before .before in
+    let after-say = after-piece-of .before .before .before in
+    let after-commands = after-say .before .before in
+    let start = after-commands .before .before .before .before .before in
+    let m = memories (start .args .flash .now) (start .args .sram .now) (start .args .usd .now) in
+    let j = join (says commandBytes (start .args .reply) m) in
+    let s : Said j (after-say .say .result) (replicate 257 0) (after-say .say .last .1 .1 .1 .1 .1 .0) =
+    (after-say .say .ensures .0) commandBytes (after-commands .commands .ensures .1) in
+    let t = said-taken j (after-say .say .result) (replicate 257 0) (after-say .say .last .1 .1 .1 .1 .1 .0) s in
+    rw (reply-alone (start .args .id) commandBytes (start .args .reply) m)
+    (rw (t, after-piece-of .piece-of .ensures) at (after-put-reply .put-reply .ensures))
+
 pub say-spec : {M : Type 1} → statement M
 say-spec =
     tie.close
@@ -19,8 +63,8 @@ say-spec =
     (λ c. search needs)
     (λ c κs. search needs)
     (λ c. search needs)
-    (λ c. let m = memories (c .before .before .before .before .before .before .before .before .before .args .flash .now) (c .before .before .before .before .before .before .before .before .before .args .sram .now) (c .before .before .before .before .before .before .before .before .before .args .usd .now) in let j = join (says commandBytes (c .before .before .before .before .before .before .before .before .before .args .reply) m) in let s : Said j (c .before .before .say .result) (replicate 257 0) (c .before .before .say .last .1 .1 .1 .1 .1 .0) = (c .before .before .say .ensures .0) commandBytes (c .before .before .before .before .commands .ensures .1) in let t = said-taken j (c .before .before .say .result) (replicate 257 0) (c .before .before .say .last .1 .1 .1 .1 .1 .0) s in s .count ∙ sym (ap length t))
+    slice-aggregate-put-reply
     (λ c κs. search needs)
-    (λ c κs. let m = memories (c .before .before .before .before .before .before .before .before .before .before .before .args .flash .now) (c .before .before .before .before .before .before .before .before .before .before .before .args .sram .now) (c .before .before .before .before .before .before .before .before .before .before .before .args .usd .now) in let j = join (says commandBytes (c .before .before .before .before .before .before .before .before .before .before .before .args .reply) m) in let s : Said j (c .before .before .before .before .say .result) (replicate 257 0) (c .before .before .before .before .say .last .1 .1 .1 .1 .1 .0) = (c .before .before .before .before .say .ensures .0) commandBytes (c .before .before .before .before .before .before .commands .ensures .1) in let t = said-taken j (c .before .before .before .before .say .result) (replicate 257 0) (c .before .before .before .before .say .last .1 .1 .1 .1 .1 .0) s in let r = alone-room (c .before .before .before .before .before .before .before .before .before .before .before .args .id) (c .before .before .before .before .before .before .before .before .before .before .before .args .reply) (take (c .before .before .before .before .say .result) (c .before .before .before .before .say .last .1 .1 .1 .1 .1 .0)) (omega (arith, ap length t, s .count, (c .before .before .before .before .say .ensures .1))) (λ f. omega (arith, ap length t, s .count, (c .before .before .before .before .say .ensures .2) f)) in rw (c .before .piece-of .ensures) (r .0, r .1, omega (arith, r .2, (c .before .before .before .before .before .before .before .before .before .before .before .pre .2))))
+    put-reply-requires
     (λ c. search needs)
-    (λ c. let m = memories (c .before .before .before .before .before .before .before .before .before .before .before .before .before .before .args .flash .now) (c .before .before .before .before .before .before .before .before .before .before .before .before .before .before .args .sram .now) (c .before .before .before .before .before .before .before .before .before .before .before .before .before .before .args .usd .now) in let j = join (says commandBytes (c .before .before .before .before .before .before .before .before .before .before .before .before .before .before .args .reply) m) in let s : Said j (c .before .before .before .before .before .before .before .say .result) (replicate 257 0) (c .before .before .before .before .before .before .before .say .last .1 .1 .1 .1 .1 .0) = (c .before .before .before .before .before .before .before .say .ensures .0) commandBytes (c .before .before .before .before .before .before .before .before .before .commands .ensures .1) in let t = said-taken j (c .before .before .before .before .before .before .before .say .result) (replicate 257 0) (c .before .before .before .before .before .before .before .say .last .1 .1 .1 .1 .1 .0) s in rw (reply-alone (c .before .before .before .before .before .before .before .before .before .before .before .before .before .before .args .id) commandBytes (c .before .before .before .before .before .before .before .before .before .before .before .before .before .before .args .reply) m) (rw (t, (c .before .before .before .before .piece-of .ensures)) at (c .before .before .put-reply .ensures))))
+    returns)

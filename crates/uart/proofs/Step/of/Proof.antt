@@ -8,6 +8,22 @@ use Rattle.words.proofs.Tests.{past}
 use Rattle.uart.proofs.Step.of.Statement.{statement}
 use Rattle.uart.proofs.Step.of.Tie as tie
 
+returns-15 : tie.Need-returns-15
+returns-15 c =
+    let start = c .before in
+    sym (List·getD-eq-default steps Idle {n = start .args .number}
+    (past 13 (start .args .number) (past 12 (start .args .number)
+    (past 11 (start .args .number) (past 10 (start .args .number)
+    (past 9 (start .args .number) (past 8 (start .args .number) (past 7 (start .args .number)
+    (past 6 (start .args .number) (past 5 (start .args .number) (past 4 (start .args .number)
+    (past 3 (start .args .number) (past 2 (start .args .number) (past 1 (start .args .number)
+    (past 0 (start .args .number) (omega arith) (c .match .rest .0 .0 .0 .0 .0 .0 .0 .0 .0 .0 .0 .0 .0 .1))
+    (c .match .rest .0 .0 .0 .0 .0 .0 .0 .0 .0 .0 .0 .0 .1)) (c .match .rest .0 .0 .0 .0 .0 .0 .0 .0 .0 .0 .0 .1))
+    (c .match .rest .0 .0 .0 .0 .0 .0 .0 .0 .0 .0 .1)) (c .match .rest .0 .0 .0 .0 .0 .0 .0 .0 .0 .1))
+    (c .match .rest .0 .0 .0 .0 .0 .0 .0 .0 .1)) (c .match .rest .0 .0 .0 .0 .0 .0 .0 .1)) (c .match .rest .0 .0 .0 .0 .0 .0 .1))
+    (c .match .rest .0 .0 .0 .0 .0 .1)) (c .match .rest .0 .0 .0 .0 .1)) (c .match .rest .0 .0 .0 .1)) (c .match .rest .0 .0 .1))
+    (c .match .rest .0 .1)) (c .match .rest .1)))
+
 pub of-spec : {M : Type 1} → statement M
 of-spec =
     tie.close
@@ -26,4 +42,4 @@ of-spec =
     (λ c. rw (c .match .keys12))
     (λ c. rw (c .match .keys13))
     (λ c. rw (c .match .keys14))
-    (λ c. sym (List·getD-eq-default steps Idle {n = c .before .args .number} (past 13 (c .before .args .number) (past 12 (c .before .args .number) (past 11 (c .before .args .number) (past 10 (c .before .args .number) (past 9 (c .before .args .number) (past 8 (c .before .args .number) (past 7 (c .before .args .number) (past 6 (c .before .args .number) (past 5 (c .before .args .number) (past 4 (c .before .args .number) (past 3 (c .before .args .number) (past 2 (c .before .args .number) (past 1 (c .before .args .number) (past 0 (c .before .args .number) (omega arith) (c .match .rest .0 .0 .0 .0 .0 .0 .0 .0 .0 .0 .0 .0 .0 .1)) (c .match .rest .0 .0 .0 .0 .0 .0 .0 .0 .0 .0 .0 .0 .1)) (c .match .rest .0 .0 .0 .0 .0 .0 .0 .0 .0 .0 .0 .1)) (c .match .rest .0 .0 .0 .0 .0 .0 .0 .0 .0 .0 .1)) (c .match .rest .0 .0 .0 .0 .0 .0 .0 .0 .0 .1)) (c .match .rest .0 .0 .0 .0 .0 .0 .0 .0 .1)) (c .match .rest .0 .0 .0 .0 .0 .0 .0 .1)) (c .match .rest .0 .0 .0 .0 .0 .0 .1)) (c .match .rest .0 .0 .0 .0 .0 .1)) (c .match .rest .0 .0 .0 .0 .1)) (c .match .rest .0 .0 .0 .1)) (c .match .rest .0 .0 .1)) (c .match .rest .0 .1)) (c .match .rest .1)))))
+    returns-15)

@@ -6,8 +6,20 @@ use Rattle.uart.specs.Conversation.{addressed, keptIf}
 use Rattle.uart_deciding.proofs.address.crc_address.Statement.{statement}
 use Rattle.uart_deciding.proofs.address.crc_address.Tie as tie
 
-pub crc-address-spec : {M : Type 1} → statement M
+returns : tie.Need-returns
 unfolding addressed keptIf
+returns c =
+    let after-kept = c .before in
+    let after-sector-start = after-kept .before in
+    let after-address-in = after-sector-start .before in
+    rw (
+      ← after-address-in .address-in .ensures,
+      ← ap (λ (a : Address). a .0) (after-address-in .address-in .ensures),
+      ← after-sector-start .sector-start .ensures,
+      ← after-kept .kept .ensures,
+    ) (c .addressed .ensures)
+
+pub crc-address-spec : {M : Type 1} → statement M
 crc-address-spec =
     tie.close
     (tie.spec
@@ -15,4 +27,4 @@ crc-address-spec =
     (λ c κs. search needs)
     (λ c κs. search needs)
     (λ c κs. search needs)
-    (λ c. rw (← c .before .before .before .address-in .ensures, ← ap (λ (a : Address). a .0) (c .before .before .before .address-in .ensures), ← c .before .before .sector-start .ensures, ← c .before .kept .ensures) (c .addressed .ensures)))
+    returns)

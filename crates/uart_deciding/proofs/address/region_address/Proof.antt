@@ -6,8 +6,20 @@ use Rattle.uart.specs.Conversation.{addressed, keptIf}
 use Rattle.uart_deciding.proofs.address.region_address.Statement.{statement}
 use Rattle.uart_deciding.proofs.address.region_address.Tie as tie
 
-pub region-address-spec : {M : Type 1} → statement M
+returns : tie.Need-returns
 unfolding addressed keptIf
+returns c =
+    let after-kept = c .before in
+    let after-known = after-kept .before in
+    let after-address-in = after-known .before in
+    rw (
+      ← after-address-in .address-in .ensures,
+      ← ap (λ (a : Address). a .0) (after-address-in .address-in .ensures),
+      ← after-known .known .ensures,
+      ← after-kept .kept .ensures,
+    ) (c .addressed .ensures)
+
+pub region-address-spec : {M : Type 1} → statement M
 region-address-spec =
     tie.close
     (tie.spec
@@ -15,4 +27,4 @@ region-address-spec =
     (λ c κs. search needs)
     (λ c κs. search needs)
     (λ c κs. search needs)
-    (λ c. rw (← c .before .before .before .address-in .ensures, ← ap (λ (a : Address). a .0) (c .before .before .before .address-in .ensures), ← c .before .before .known .ensures, ← c .before .kept .ensures) (c .addressed .ensures)))
+    returns)

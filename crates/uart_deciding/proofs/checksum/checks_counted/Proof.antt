@@ -16,4 +16,4 @@ checks-counted-spec =
     (λ c κs. search needs)
     (λ c. omega (arith, ap (λ (n : LessOne). n .0) (c .before .of .ensures)))
     (λ c κs. search needs)
-    (λ c. rw ((c .xor-from .ensures), (c .before .before .of .ensures), xor-zero-l ((c .before .before .before .before .before .args .x) - 1))))
+    (λ c. rw (c .xor-from .ensures, c .before .before .of .ensures, xor-zero-l (c .before .before .before .before .before .args .x - 1))))

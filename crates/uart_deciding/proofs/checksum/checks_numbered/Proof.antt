@@ -11,6 +11,15 @@ use Rattle.board.specs.declared.LessOne.{LessOne}
 use Rattle.uart_deciding.proofs.checksum.checks_numbered.Statement.{statement}
 use Rattle.uart_deciding.proofs.checksum.checks_numbered.Tie as tie
 
+returns : tie.Need-returns
+returns c =
+    let after-of = c .before .before in
+    let start = after-of .before .before .before in
+    let b = start .args .bytes .now in
+    let x = start .args .x in
+    ap (λ (z : ℕ). eqb (getD b (2 * x) 0) z) (rw (after-of .of .ensures) at (c .xor-from .ensures) ∙ sym
+    (ap (λ (z : ℕ). xorFrom z (take (2 * x) b)) (xor-byte (x - 1) (omega arith))))
+
 pub checks-numbered-spec : {M : Type 1} → statement M
 checks-numbered-spec =
     tie.close
@@ -20,4 +29,4 @@ checks-numbered-spec =
     (λ c κs. search needs)
     (λ c. omega (arith, ap (λ (n : LessOne). n .0) (c .before .of .ensures)))
     (λ c κs. search needs)
-    (λ c. let b = (c .before .before .before .before .before .args .bytes .now) in let x = (c .before .before .before .before .before .args .x) in ap (λ (z : ℕ). eqb (getD b (2 * x) 0) z) (rw (c .before .before .of .ensures) at (c .xor-from .ensures) ∙ sym (ap (λ (z : ℕ). xorFrom z (take (2 * x) b)) (xor-byte (x - 1) (omega arith))))))
+    returns)

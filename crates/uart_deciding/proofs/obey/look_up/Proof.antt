@@ -9,5 +9,5 @@ look-up-spec =
     tie.close
     (tie.spec
     (λ c κs. search needs)
-    (λ c. rw (eqb-true ((c .before .args .byte)) 3 (c .if1 .taken)))
+    (λ c. rw (eqb-true (c .before .args .byte) 3 (c .if1 .taken)))
     (λ c. rw (c .before .if1 .left) at (c .look-up .ensures)))

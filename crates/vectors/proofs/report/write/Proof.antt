@@ -9,6 +9,6 @@ pub write-spec : {M : Type 1} → statement M
 write-spec =
     tie.close
     (tie.spec
-    (λ c. front ((c .before .before .args .end)) ((c .before .before .args .out .now)) (omega arith))
+    (λ c. front (c .before .before .args .end) (c .before .before .args .out .now) (omega arith))
     (λ c κs. search needs)
     (λ c. search needs))

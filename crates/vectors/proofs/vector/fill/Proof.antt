@@ -25,5 +25,5 @@ fill-spec =
     (λ c. omega arith)
     (λ c. omega arith)
     (λ c. simp length-set (omega arith))
-    (λ c. (c .before .loop .inv .1))
+    (λ c. c .before .loop .inv .1)
     (λ c. search needs))

@@ -19,6 +19,24 @@ Inv-loop rest n at₀ at = (at ≤ n) × T (areFields (take at rest))
 abbrev μ-loop : tie.MeasureT-loop
 μ-loop rest n at₀ at = n - at
 
+loop-again : tie.Need-loop-again Inv-loop μ-loop
+loop-again c =
+    let after-is-digit2 = c .before in
+    let else2 = after-is-digit2 .before .before in
+    let after-is-digit = else2 .before in
+    let else1 = after-is-digit .before .before in
+    let at-loop = else1 .before .before .before in
+    let start = at-loop .before .before in
+    let s = start .args .rest .now in
+    let k = at-loop .loop .at in
+    let b = isDigit (getD s (k + 1) 0) in
+    let d = isDigit (getD s (k + 2) 0) in (
+      omega arith,
+      one-field-more s k (omega arith) (at-loop .loop .inv .1) (field-by (getD s k 0) (getD s (k + 1) 0) (getD s (k + 2) 0)
+          (else1 .if1 .left) (subst T (sym (not-false b (rw (after-is-digit .is-digit .ensures) at (else2 .if2 .left)))) tt)
+          (subst T (sym (not-false d (rw (after-is-digit2 .is-digit2 .ensures) at (c .if3 .left)))) tt)),
+    )
+
 pub fields-first-spec : {M : Type 1} → statement M
 fields-first-spec =
     tie.close
@@ -26,18 +44,18 @@ fields-first-spec =
     Inv-loop
     μ-loop
     (λ c. (omega arith, tt))
-    (λ c. omega (arith, (c .loop .inv .0)))
+    (λ c. omega (arith, c .loop .inv .0))
     (λ c. omega arith)
-    (λ c. (c .before .before .before .loop .inv))
+    (λ c. c .before .before .before .loop .inv)
     (λ c. search needs)
     (λ c. omega arith)
     (λ c κs. search needs)
-    (λ c. (c .before .before .before .before .before .before .loop .inv))
+    (λ c. c .before .before .before .before .before .before .loop .inv)
     (λ c. search needs)
     (λ c. omega arith)
     (λ c κs. search needs)
-    (λ c. (c .before .before .before .before .before .before .before .before .before .loop .inv))
+    (λ c. c .before .before .before .before .before .before .before .before .before .loop .inv)
     (λ c. omega arith)
     (λ c. omega arith)
-    (λ c. let s = (c .before .before .before .before .before .before .before .before .before .before .before .args .rest .now) in let k = (c .before .before .before .before .before .before .before .before .before .loop .at) in let b = isDigit (getD s (k + 1) 0) in let d = isDigit (getD s (k + 2) 0) in (omega arith, one-field-more s k (omega arith) (c .before .before .before .before .before .before .before .before .before .loop .inv .1) (field-by (getD s k 0) (getD s (k + 1) 0) (getD s (k + 2) 0) (c .before .before .before .before .before .before .if1 .left) (subst T (sym (not-false b (rw ((c .before .before .before .before .is-digit .ensures)) at (c .before .before .before .if2 .left)))) tt) (subst T (sym (not-false d (rw ((c .before .is-digit2 .ensures)) at (c .if3 .left)))) tt))))
-    (λ c. (c .before .loop .inv)))
+    loop-again
+    (λ c. c .before .loop .inv))

@@ -9,6 +9,19 @@ use Rattle.written.proofs.FrameFirst.{frame-at}
 use Rattle.written.proofs.first.frame_first.Statement.{statement}
 use Rattle.written.proofs.first.frame_first.Tie as tie
 
+returns-3 : tie.Need-returns-3
+returns-3 c =
+    let after-is-digit3 = c .before .before in
+    let after-is-digit2 = after-is-digit3 .before .before in
+    let after-is-digit = after-is-digit2 .before .before in
+    let after-fields-first = after-is-digit .before .before .before .before .before in
+    let start = after-fields-first .before .before .before .before in
+    let text = start .args .text .now in
+    λ h. frame-at text (after-fields-first .fields-first .result) (5 + after-fields-first .fields-first .result) (omega arith)
+    (omega arith) (rw (to-the-end 5 text) at (after-fields-first .fields-first .ensures .1))
+    (subst T (sym (rw (after-is-digit .is-digit .ensures, after-is-digit2 .is-digit2 .ensures, after-is-digit3 .is-digit3 .ensures) at
+    (c .if3 .taken))) tt)
+
 pub frame-first-spec : {M : Type 1} → statement M
 frame-first-spec =
     tie.close
@@ -31,5 +44,5 @@ frame-first-spec =
     (λ c. search needs)
     (λ c κs. search needs)
     (λ c. search needs)
-    (λ c. let text = (c .before .before .before .before .before .before .before .before .before .before .before .before .before .before .before .args .text .now) in λ h. frame-at text (c .before .before .before .before .before .before .before .before .before .before .before .fields-first .result) (5 + (c .before .before .before .before .before .before .before .before .before .before .before .fields-first .result)) (omega arith) (omega arith) (rw (to-the-end 5 text) at (c .before .before .before .before .before .before .before .before .before .before .before .fields-first .ensures .1)) (subst T (sym (rw ((c .before .before .before .before .before .before .is-digit .ensures), (c .before .before .before .before .is-digit2 .ensures), (c .before .before .is-digit3 .ensures)) at (c .if3 .taken))) tt))
+    returns-3
     (λ c. search needs))
