@@ -8,7 +8,6 @@ use lib.Dec.{T, eqb}
 use Rattle.words.specs.Lists.{any, all}
 use Rattle.words.specs.Choice.{if_then_else_}
 use Rattle.words.specs.Over.{within}
-use Rattle.board.specs.Board.{address}
 use Rattle.board.specs.Quantities.{isSector, named, firstIndexed, firstNumbered}
 use Rattle.board.specs.Regions.{placeOf}
 use Rattle.board.specs.Usd.{besideBits, protectionOn, writeProtected}
