@@ -1,6 +1,7 @@
 -- A sound session expects more than it has taken.
 use borrow.Author.Needs.{needs}
 use native.Mathlib.Omega.{arith}
+use lib.Dec.{T}
 use Rattle.memories.specs.Memories.{lengthsRight}
 use Rattle.boot.specs.Session.{on, sound}
 use Rattle.carriers.specs.declared.Carrier.the-variants.{Uart}
@@ -9,49 +10,37 @@ use Rattle.gathering.proofs.Silent.{all-three}
 use Rattle.gathering.proofs.silent_bytes.Statement.{statement}
 use Rattle.gathering.proofs.silent_bytes.Tie as tie
 
-sub-least : tie.Need-sub-least
-sub-least c =
-    let then1 = c .before in
-    let after-sound = then1 .before in
+-- what the test has shown of the lengths and the session
+abbrev start : tie.Then1 → tie.Start
+start c = c .before .before .before .before
+
+tested : (c : tie.Then1)
+    → T (lengthsRight (start c .args .flash) (start c .args .sram) (start c .args .usd)) × T (on Uart (start c .args .session))
+    × T (sound (start c .args .session))
+tested c =
+    let after-sound = c .before in
     let after-on = after-sound .before in
     let after-lengths-right = after-on .before in
-    let start = after-lengths-right .before in
-    let t =
-    all-three (lengthsRight (start .args .flash) (start .args .sram) (start .args .usd)) (on Uart (start .args .session))
-    (sound (start .args .session)) (rw (after-lengths-right .lengths-right .ensures, after-on .on .ensures, after-sound .sound .ensures)
-    at (then1 .if1 .taken)) in
-    omega (arith, sound-taken (start .args .session) (t .2))
+    all-three (lengthsRight (start c .args .flash) (start c .args .sram) (start c .args .usd)) (on Uart (start c .args .session))
+    (sound (start c .args .session))
+    (rw (after-lengths-right .lengths-right .ensures, after-on .on .ensures, after-sound .sound .ensures) at (c .if1 .taken))
+
+sub-least : tie.Need-sub-least
+sub-least c = omega (arith, sound-taken (start (c .before) .args .session) (tested (c .before) .2))
 
 sub-least-2 : tie.Need-sub-least-2
-sub-least-2 c =
-    let then1 = c .before in
-    let after-sound = then1 .before in
-    let after-on = after-sound .before in
-    let after-lengths-right = after-on .before in
-    let start = after-lengths-right .before in
-    let t =
-    all-three (lengthsRight (start .args .flash) (start .args .sram) (start .args .usd)) (on Uart (start .args .session))
-    (sound (start .args .session)) (rw (after-lengths-right .lengths-right .ensures, after-on .on .ensures, after-sound .sound .ensures)
-    at (then1 .if1 .taken)) in
-    omega (arith, sound-taken (start .args .session) (t .2))
+sub-least-2 c = omega (arith, sound-taken (start (c .before) .args .session) (tested (c .before) .2))
 
 returns : tie.Need-returns
 returns c =
     let then1 = c .before .before in
-    let after-sound = then1 .before in
-    let after-on = after-sound .before in
-    let after-lengths-right = after-on .before in
-    let start = after-lengths-right .before in
-    let t =
-    all-three (lengthsRight (start .args .flash) (start .args .sram) (start .args .usd)) (on Uart (start .args .session))
-    (sound (start .args .session)) (rw (after-lengths-right .lengths-right .ensures, after-on .on .ensures, after-sound .sound .ensures)
-    at (then1 .if1 .taken)) in (
+    let t = tested then1 in (
       omega (arith, c .least .ensures),
       λ h. record {
         lengths = t .0;
         here = t .1;
         firm = t .2;
-        short = omega (arith, c .least .ensures, sound-taken (start .args .session) (t .2));
+        short = omega (arith, c .least .ensures, sound-taken (start then1 .args .session) (t .2));
       },
     )
 

@@ -7,6 +7,12 @@ use Rattle.passing.proofs.Passing.{gone-on}
 use Rattle.hearing.proofs.go_on.Statement.{statement}
 use Rattle.hearing.proofs.go_on.Tie as tie
 
+-- the line that was answered before the lines behind it
+abbrev answered : tie.After-struct-known → tie.After-end-line
+answered c =
+    let after-gather = c .before .before .before .before .before .before in
+    after-gather .before .before .before .before .before .before .before .before .before .before
+
 end-line-requires : tie.Need-end-line-requires
 end-line-requires c κs =
     let start = c .before .before .before .before .before .before .before .before .before .before in
@@ -35,21 +41,6 @@ add-t27 c =
     let p = after-gather .gather .ensures in
     omega (arith, p .few, p .within, after-end-line .end-line .ensures .1 .2, start .pre .1)
 
-same-length : tie.Need-same-length
-same-length c =
-    let after-end-line = c .before .before .before .before .before .before .before .before .before .before .before .before .before .before .before .before in
-    after-end-line .end-line .kept .1 .1 .0
-
-same-length-2 : tie.Need-same-length-2
-same-length-2 c =
-    let after-end-line = c .before .before .before .before .before .before .before .before .before .before .before .before .before .before .before .before in
-    after-end-line .end-line .kept .1 .1 .1 .0
-
-same-length-3 : tie.Need-same-length-3
-same-length-3 c =
-    let after-end-line = c .before .before .before .before .before .before .before .before .before .before .before .before .before .before .before .before in
-    after-end-line .end-line .kept .1 .1 .1 .1 .0
-
 returns : tie.Need-returns
 returns c =
     let after-nod = c .before .before .before in
@@ -77,8 +68,8 @@ go-on-spec =
     (λ c κs. search needs)
     nod-requires
     add-t27
-    same-length
-    same-length-2
-    same-length-3
+    (λ c. answered c .end-line .kept .1 .1 .0)
+    (λ c. answered c .end-line .kept .1 .1 .1 .0)
+    (λ c. answered c .end-line .kept .1 .1 .1 .1 .0)
     (λ c. search needs)
     returns)

@@ -9,7 +9,7 @@ use Rattle.words.specs.Over.{put, newer}
 use Rattle.words.proofs.Over.{over-none, length-over, put-then}
 use Rattle.frames.specs.Frames.{classic, frameBytes, frameIn}
 use Rattle.print.specs.Prints.{spelledFrame, spelledFrames}
-use Rattle.print.proofs.Printing.{turn}
+use Rattle.print.proofs.Printing.{Turn, turn}
 use Rattle.print.proofs.frames.Statement.{statement}
 use Rattle.print.proofs.frames.Tie as tie
 
@@ -25,48 +25,46 @@ Inv-loop reply out₀ at n end₀ i₀ out end i =
 abbrev μ-loop : tie.MeasureT-loop
 μ-loop reply out₀ at n end₀ i₀ out end i = n - i
 
+-- the reply, and what a turn prints of it
+abbrev reply : tie.In-loop Inv-loop μ-loop → List ℕ
+reply c = c .before .before .before .before .args .reply .now
+
+turned : (c : tie.In-loop Inv-loop μ-loop) → Turn (reply c) (c .before .loop .i)
+turned c =
+    turn (reply c) (c .before .loop .i) (omega arith) (c .before .before .before .before .pre .0) (c .before .loop .inv .1)
+
 add-next : tie.Need-add-next Inv-loop μ-loop
-add-next c =
-    let at-loop = c .before in
-    let start = at-loop .before .before .before in
-    let t = turn (start .args .reply .now) (at-loop .loop .i) (omega arith) (start .pre .0) (at-loop .loop .inv .1) in
-    omega (arith, t .within)
+add-next c = omega (arith, turned c .within)
 
 part-frame-end : tie.Need-part-frame-end Inv-loop μ-loop
-part-frame-end c =
-    let at-loop = c .before in
-    let start = at-loop .before .before .before in
-    let t = turn (start .args .reply .now) (at-loop .loop .i) (omega arith) (start .pre .0) (at-loop .loop .inv .1) in
-    t .within
+part-frame-end c = turned c .within
 
 frame-requires : tie.Need-frame-requires Inv-loop μ-loop
 frame-requires c κs =
-    let at-loop = c .before .before .before in
-    let start = at-loop .before .before .before in
-    let t = turn (start .args .reply .now) (at-loop .loop .i) (omega arith) (start .pre .0) (at-loop .loop .inv .1) in
-    (t .whole, omega (arith, t .within, at-loop .loop .inv .2, at-loop .loop .inv .5, start .pre .1))
+    let in-loop = c .before .before in
+    let loop = in-loop .before .loop in
+    let t = turned in-loop in
+    (t .whole, omega (arith, t .within, loop .inv .2, loop .inv .5, in-loop .before .before .before .before .pre .1))
 
 loop-again : tie.Need-loop-again Inv-loop μ-loop
 loop-again c =
-    let after-frame = c .before .before in
-    let at-loop = after-frame .before .before .before .before in
-    let start = at-loop .before .before .before in
-    let t = turn (start .args .reply .now) (at-loop .loop .i) (omega arith) (start .pre .0) (at-loop .loop .inv .1) in
-    let f =
-    spelledFrame (frameIn (take (at-loop .loop .i + frameBytes classic - at-loop .loop .i)
-    (drop (at-loop .loop .i) (start .args .reply .now)))) in
-    let la = length-append f (spelledFrames (drop (at-loop .loop .i + frameBytes classic) (start .args .reply .now))) in
-    let e1 = rw (t .first) at (at-loop .loop .inv .3) in (
+    let printed = c .before .before .frame in
+    let in-loop = c .before .before .before .before .before in
+    let loop = in-loop .before .loop in
+    let next = loop .i + frameBytes classic in
+    let t = turned in-loop in
+    let one = spelledFrame (frameIn (take (next - loop .i) (drop (loop .i) (reply in-loop)))) in
+    let others = spelledFrames (drop next (reply in-loop)) in
+    let e1 = rw (t .first) at (loop .inv .3) in (
       t .within,
       omega arith,
-      omega (arith, after-frame .frame .ensures .1, at-loop .loop .inv .2),
-      omega (arith, la, e1, after-frame .frame .ensures .0),
-      ap (λ (o : List ℕ). put o (after-frame .frame .result) (spelledFrames
-          (drop (at-loop .loop .i + frameBytes classic) (start .args .reply .now)))) (after-frame .frame .ensures .2) ∙ put-then
-          (at-loop .loop .out) (at-loop .loop .end) (after-frame .frame .result) f
-          (spelledFrames (drop (at-loop .loop .i + frameBytes classic) (start .args .reply .now))) (after-frame .frame .ensures .0) ∙ ap
-          (λ (l : List ℕ). put (at-loop .loop .out) (at-loop .loop .end) l) (sym (t .first)) ∙ at-loop .loop .inv .4,
-      ap length (after-frame .frame .ensures .2) ∙ simp (length-over newer) (at-loop .loop .inv .5),
+      omega (arith, printed .ensures .1, loop .inv .2),
+      omega (arith, length-append one others, e1, printed .ensures .0),
+      ap (λ (o : List ℕ). put o (printed .result) others) (printed .ensures .2)
+          ∙ put-then (loop .out) (loop .end) (printed .result) one others (printed .ensures .0)
+          ∙ ap (λ (l : List ℕ). put (loop .out) (loop .end) l) (sym (t .first))
+          ∙ loop .inv .4,
+      ap length (printed .ensures .2) ∙ simp (length-over newer) (loop .inv .5),
     )
 
 returns : tie.Need-returns Inv-loop μ-loop

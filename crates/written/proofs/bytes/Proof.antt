@@ -2,7 +2,7 @@
 use native.Mathlib.Omega.{arith}
 use mathlib.Core.Path.{_≡_, refl, sym, ap, _∙_}
 use mathlib.Core.List.{List, [], _∷_}
-use Prim.Native.Nat.{ℕ, _≤_, _-_, _+_, _*_}
+use Prim.Native.Nat.{ℕ, _≤_, _<_, _-_, _+_, _*_}
 use lib.Dec.{T}
 use lib.ListN.{length, drop, length-set}
 use lib.Seq.{drop-length}
@@ -25,44 +25,46 @@ Inv-loop rest out₀ n count₀ i₀ out count i =
 abbrev μ-loop : tie.MeasureT-loop
 μ-loop rest out₀ n count₀ i₀ out count i = n - i
 
+-- the turn in which a byte was read, and the characters
+abbrev here : tie.After-byte-at Inv-loop μ-loop → tie.At-loop Inv-loop μ-loop
+here c = c .before .before
+
+abbrev text : tie.After-byte-at Inv-loop μ-loop → List ℕ
+text c = here c .before .before .before .args .rest .now
+
+-- its field stands within the characters, and fields follow
+within : (c : tie.After-byte-at Inv-loop μ-loop) → here c .loop .i + 2 < length (text c)
+within c = field-good (text c) (here c .loop .i) (omega arith) (here c .loop .inv .2) .0
+
+follow : (c : tie.After-byte-at Inv-loop μ-loop) → T (areFields (drop (here c .loop .i + 3) (text c)))
+follow c = field-good (text c) (here c .loop .i) (omega arith) (here c .loop .inv .2) .3
+
 slice-write-out : tie.Need-slice-write-out Inv-loop μ-loop
-slice-write-out c =
-    let at-loop = c .before .before in
-    let start = at-loop .before .before .before in
-    let g = field-good (start .args .rest .now) (at-loop .loop .i) (omega arith) (at-loop .loop .inv .2) in
-    omega (arith, g .0)
+slice-write-out c = omega (arith, within c)
 
 add-count : tie.Need-add-count Inv-loop μ-loop
-add-count c =
-    let at-loop = c .before .before in
-    let start = at-loop .before .before .before in
-    let g = field-good (start .args .rest .now) (at-loop .loop .i) (omega arith) (at-loop .loop .inv .2) in
-    omega (arith, g .0)
+add-count c = omega (arith, within c)
 
 add-i : tie.Need-add-i Inv-loop μ-loop
-add-i c =
-    let at-loop = c .before .before in
-    let start = at-loop .before .before .before in
-    let g = field-good (start .args .rest .now) (at-loop .loop .i) (omega arith) (at-loop .loop .inv .2) in
-    omega (arith, g .0)
+add-i c = omega (arith, within c)
 
 loop-again : tie.Need-loop-again Inv-loop μ-loop
 loop-again c =
-    let at-loop = c .before .before in
-    let start = at-loop .before .before .before in
-    let g = field-good (start .args .rest .now) (at-loop .loop .i) (omega arith) (at-loop .loop .inv .2) in
-    let f = fields-first (start .args .rest .now) (at-loop .loop .i) (g .0) in
-    let e1 = rw f at (at-loop .loop .inv .3) in (
-      omega (arith, g .0),
+    let loop = here c .loop in
+    let byte = c .byte-at .result in
+    let left = fields (drop (loop .i + 3) (text c)) in
+    let f = fields-first (text c) (loop .i) (within c) in
+    let e1 = rw f at (loop .inv .3) in (
+      omega (arith, within c),
       omega arith,
-      g .3,
+      follow c,
       omega (arith, e1),
-      ap (λ (o : List ℕ). put o (at-loop .loop .count + 1) (fields (drop (at-loop .loop .i + 3) (start .args .rest .now))))
-          (sym (put-one (at-loop .loop .out) (at-loop .loop .count) (c .byte-at .result))) ∙ put-then (at-loop .loop .out)
-          (at-loop .loop .count) (at-loop .loop .count + 1) ((c .byte-at .result) ∷ [])
-          (fields (drop (at-loop .loop .i + 3) (start .args .rest .now))) refl ∙ rw (c .byte-at .ensures)
-          (ap (λ (l : List ℕ). put (at-loop .loop .out) (at-loop .loop .count) l) (sym f)) ∙ at-loop .loop .inv .4,
-      length-set (at-loop .loop .out) (at-loop .loop .count) (c .byte-at .result) ∙ at-loop .loop .inv .5,
+      ap (λ (o : List ℕ). put o (loop .count + 1) left) (sym (put-one (loop .out) (loop .count) byte))
+          ∙ put-then (loop .out) (loop .count) (loop .count + 1) (byte ∷ []) left refl
+          ∙ ap (λ (b : ℕ). put (loop .out) (loop .count) (b ∷ left)) (c .byte-at .ensures)
+          ∙ ap (λ (l : List ℕ). put (loop .out) (loop .count) l) (sym f)
+          ∙ loop .inv .4,
+      length-set (loop .out) (loop .count) byte ∙ loop .inv .5,
     )
 
 returns : tie.Need-returns Inv-loop μ-loop
