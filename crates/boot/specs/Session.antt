@@ -2,9 +2,9 @@
 use Prim.Native.Nat.{ℕ, _+_}
 use mathlib.Core.Bool.{Bool, _&&_}
 use mathlib.Core.List.{List}
-use lib.ListN.{length, replicate}
+use lib.ListN.{length}
 use lib.Dec.{eqb, leb, ltb}
-use Rattle.memories.specs.Effects.{stagedBytes}
+use Rattle.memories.specs.Effects.{noBytes}
 use Rattle.command.specs.Progress.{Progress, progressAt, fitting, stagedWith}
 use Rattle.command.specs.declared.Next.{Next}
 use Rattle.command.specs.declared.Next.the-variants.{Stay, Reset, Gather, GoIdle, SetSpeed, Enter, EnterAt, Run}
@@ -17,10 +17,6 @@ use Rattle.boot.specs.declared.Session.{Session}
 -- a session is on a carrier
 abbrev pub on : Carrier → Session → Bool
 on c s = eqb (s .carrier) (carrierNo c)
-
--- every staged byte is 0
-abbrev pub noBytes : List ℕ
-noBytes = replicate stagedBytes 0
 
 -- the speed at power on
 abbrev pub freshSpeed : ℕ

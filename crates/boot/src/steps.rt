@@ -33,7 +33,7 @@ impl Session {
             expected: expected,
             address: address,
             speed: speed,
-            staged: [0u8; memories::STAGED],
+            staged: memories::none_staged(),
         }
     }
 

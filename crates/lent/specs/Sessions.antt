@@ -9,7 +9,7 @@ use Rattle.words.specs.Bytes.{number, fourBytes}
 use Rattle.words.specs.Lists.{part}
 use Rattle.numbers.specs.Numbers.{shortBytes, longBytes, eightBytes}
 use Rattle.memories.specs.Effects.{stagedBytes}
-use Rattle.boot.specs.Session.{noBytes}
+use Rattle.memories.specs.Effects.{noBytes}
 use Rattle.carriers.specs.Carriers.{carrierNo}
 use Rattle.carriers.specs.declared.Carrier.the-variants.{Running}
 use Rattle.boot.specs.declared.Session.{Session}

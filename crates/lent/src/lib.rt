@@ -74,7 +74,7 @@ fn no_session() -> Session
         expected: 0,
         address: 0,
         speed: 0,
-        staged: [0u8; memories::STAGED],
+        staged: memories::none_staged(),
     }
 }
 

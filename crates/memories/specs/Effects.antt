@@ -23,6 +23,10 @@ use Rattle.memories.specs.declared.Change.the-variants.{Nothing, Write, 
 abbrev pub stagedBytes : ℕ
 stagedBytes = 257
 
+-- every staged byte is 0
+abbrev pub noBytes : List ℕ
+noBytes = replicate stagedBytes 0
+
 -- Write: a flash byte becomes old AND new, SRAM is stored, user system data is replaced
 unfoldable pub written : Region → ℕ → List ℕ → Memories → Memories
 written Flash at new m = withBytes Flash (over bitAnd (m .flash) at new) m

@@ -1,3 +1,5 @@
+ghost use mathlib.Core.Path.{_≡_};
+ghost use Rattle.memories.specs.Effects.{noBytes};
 use board::Region;
 
 // How many staged bytes there are.
@@ -19,4 +21,11 @@ pub enum Change {
     Release,
     Lock,
     Unlock,
+}
+
+// Staged bytes that are all 0.
+pub fn none_staged() -> [u8; STAGED]
+    ensures { λ r. ⌜ r ≡ noBytes ⌝ }
+{
+    [0; STAGED]
 }

@@ -5,7 +5,7 @@ use mathlib.Core.Path.{_∙_}
 use Rattle.words.specs.Lists.{part}
 use Rattle.words.proofs.Over.{put-all}
 use Rattle.words.proofs.Slices.{length-part}
-use Rattle.boot.specs.Session.{noBytes}
+use Rattle.memories.specs.Effects.{noBytes}
 use Rattle.lent.proofs.staged_in.Statement.{statement}
 use Rattle.lent.proofs.staged_in.Tie as tie
 

@@ -1,4 +1,4 @@
--- The carrier stands by its number.
+-- The carrier stands by its number, and nothing is staged.
 use borrow.Author.Needs.{needs}
 use Rattle.boot.proofs.Session.enter.Statement.{statement}
 use Rattle.boot.proofs.Session.enter.Tie as tie
@@ -8,4 +8,5 @@ enter-spec =
     tie.close
     (tie.spec
     (λ c κs. search needs)
-    (λ c. rw (← c .number .ensures)))
+    (λ c κs. search needs)
+    (λ c. rw (← c .before .number .ensures, ← c .none-staged .ensures)))

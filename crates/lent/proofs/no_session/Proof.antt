@@ -1,0 +1,11 @@
+-- Nothing is staged.
+use borrow.Author.Needs.{needs}
+use Rattle.lent.proofs.no_session.Statement.{statement}
+use Rattle.lent.proofs.no_session.Tie as tie
+
+pub no-session-spec : {M : Type 1} → statement M
+no-session-spec =
+    tie.close
+    (tie.spec
+    (λ c κs. search needs)
+    (λ c. rw (← c .none-staged .ensures)))
