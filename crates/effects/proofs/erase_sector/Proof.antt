@@ -6,12 +6,19 @@ use Rattle.memories.specs.Effects.{blank}
 use Rattle.effects.proofs.erase_sector.Statement.{statement}
 use Rattle.effects.proofs.erase_sector.Tie as tie
 
+fill-requires : tie.Need-fill-requires
+unfolding blank
+fill-requires c κs =
+    let start = c .before .before .before in
+    let h = ltb→lt (start .args .sector .0) 32 (start .pre .1) in
+    rw (c .start .ensures) (omega arith)
+
 pub erase-sector-spec : {M : Type 1} → statement M
 unfolding blank
 erase-sector-spec =
     tie.close
     (tie.spec
     (λ c κs. search needs)
-    (λ c κs. let h = ltb→lt (c .before .before .before .args .sector .0) 32 (c .before .before .before .pre .1) in rw (c .start .ensures) (omega arith))
+    fill-requires
     (λ c. search needs)
     (λ c. rw (c .before .before .fill .ensures, c .before .before .before .start .ensures)))

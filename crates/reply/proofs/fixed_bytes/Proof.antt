@@ -7,6 +7,14 @@ use Rattle.reply.proofs.Told.{commands-joined, rest-silent}
 use Rattle.reply.proofs.fixed_bytes.Statement.{statement}
 use Rattle.reply.proofs.fixed_bytes.Tie as tie
 
+returns-8 : tie.Need-returns-8
+unfolding says
+returns-8 c =
+    let start = c .before in (
+      record { there = omega arith; few = omega arith },
+      λ list l m. rest-silent list (start .args .reply) (start .pre .0) (c .match .keys8) m,
+    )
+
 pub fixed-bytes-spec : {M : Type 1} → statement M
 unfolding says
 fixed-bytes-spec =
@@ -26,4 +34,4 @@ fixed-bytes-spec =
     (λ c. rw (c .enum-told5 .given .1) (c .before .before .pre .1, λ list l m. l .told ∙ commands-joined list m))
     (λ c. rw (c .enum-told6 .given .1) (record { there = omega arith; few = omega arith }, λ list l m. refl))
     (λ c. rw (c .enum-told7 .given .1) (record { there = omega arith; few = omega arith }, λ list l m. refl))
-    (λ c. (record { there = omega arith; few = omega arith }, λ list l m. rest-silent list (c .before .args .reply) (c .before .pre .0) (c .match .keys8) m)))
+    returns-8)

@@ -4,6 +4,24 @@ use mathlib.Core.Path.{sym, _∙_}
 use Rattle.board.proofs.range.sector_start.Statement.{statement}
 use Rattle.board.proofs.range.sector_start.Tie as tie
 
+returns : tie.Need-returns
+returns c =
+    let after-found = c .before .before .before in
+    let after-place = after-found .before .before in
+    rw (sym (after-place .place .ensures) ∙ after-found .found .given .1, c .enum-told .given .1)
+
+returns-2 : tie.Need-returns-2
+returns-2 c =
+    let after-found = c .before .before .before in
+    let after-place = after-found .before .before in
+    rw (sym (after-place .place .ensures) ∙ after-found .found .given .1, c .enum-told2 .given .1)
+
+returns-3 : tie.Need-returns-3
+returns-3 c =
+    let after-found = c .before .before .before in
+    let after-place = after-found .before .before in
+    rw (sym (after-place .place .ensures) ∙ after-found .found .given .1, c .enum-told3 .given .1)
+
 pub sector-start-spec : {M : Type 1} → statement M
 sector-start-spec =
     tie.close
@@ -14,7 +32,7 @@ sector-start-spec =
     (λ c. search needs)
     (λ c. search needs)
     (λ c. search needs)
-    (λ c. rw (sym (c .before .before .before .before .before .place .ensures) ∙ c .before .before .before .found .given .1, c .enum-told .given .1))
-    (λ c. rw (sym (c .before .before .before .before .before .place .ensures) ∙ c .before .before .before .found .given .1, c .enum-told2 .given .1))
-    (λ c. rw (sym (c .before .before .before .before .before .place .ensures) ∙ c .before .before .before .found .given .1, c .enum-told3 .given .1))
+    returns
+    returns-2
+    returns-3
     (λ c. rw (sym (c .before .before .place .ensures) ∙ c .enum-told4 .given .1)))

@@ -4,6 +4,14 @@ use Rattle.rules.specs.Rules.{reading}
 use Rattle.deciding.proofs.read.read.Statement.{statement}
 use Rattle.deciding.proofs.read.read.Tie as tie
 
+returns : tie.Need-returns
+unfolding reading
+returns c =
+    let after-read-at = c .before in
+    let after-place = after-read-at .before in
+    let after-known = after-place .before in
+    rw (← after-known .known .ensures, ← after-place .place .ensures, ← after-read-at .read-at .ensures) (c .accept-if .ensures)
+
 pub read-spec : {M : Type 1} → statement M
 unfolding reading
 read-spec =
@@ -13,4 +21,4 @@ read-spec =
     (λ c κs. search needs)
     (λ c κs. search needs)
     (λ c κs. search needs)
-    (λ c. rw (← c .before .before .before .known .ensures, ← c .before .before .place .ensures, ← c .before .read-at .ensures) (c .accept-if .ensures)))
+    returns)

@@ -4,6 +4,14 @@ use Rattle.rules.specs.Rules.{summing}
 use Rattle.deciding.proofs.sum.sum.Statement.{statement}
 use Rattle.deciding.proofs.sum.sum.Tie as tie
 
+returns : tie.Need-returns
+unfolding summing
+returns c =
+    let after-sum-at = c .before in
+    let after-place = after-sum-at .before in
+    let after-sector-start = after-place .before in
+    rw (← after-sector-start .sector-start .ensures, ← after-place .place .ensures, ← after-sum-at .sum-at .ensures) (c .accept-if .ensures)
+
 pub sum-spec : {M : Type 1} → statement M
 unfolding summing
 sum-spec =
@@ -14,4 +22,4 @@ sum-spec =
     (λ c κs. search needs)
     (λ c κs. search needs)
     (λ c κs. search needs)
-    (λ c. rw (← c .before .before .before .sector-start .ensures, ← c .before .before .place .ensures, ← c .before .sum-at .ensures) (c .accept-if .ensures)))
+    returns)

@@ -6,6 +6,18 @@ use Rattle.board.specs.declared.Sector.{Sector}
 use Rattle.deciding.proofs.write.touches_protected.Statement.{statement}
 use Rattle.deciding.proofs.write.touches_protected.Tie as tie
 
+sub-any-write-protected : tie.Need-sub-any-write-protected
+sub-any-write-protected c =
+    let after-at2 = c .before .before in
+    let after-at = after-at2 .before in
+    omega (arith, ap (λ (k : Sector). k .0) (after-at .at .ensures), ap (λ (k : Sector). k .0) (after-at2 .at2 .ensures))
+
+any-write-protected-requires : tie.Need-any-write-protected-requires
+any-write-protected-requires c κs =
+    let after-at2 = c .before .before in
+    let after-at = after-at2 .before in
+    omega (arith, ap (λ (k : Sector). k .0) (after-at .at .ensures), ap (λ (k : Sector). k .0) (after-at2 .at2 .ensures))
+
 pub touches-protected-spec : {M : Type 1} → statement M
 touches-protected-spec =
     tie.close
@@ -14,8 +26,8 @@ touches-protected-spec =
     (λ c. search needs)
     (λ c. search needs)
     (λ c κs. search needs)
-    (λ c. omega (arith, ap (λ (k : Sector). k .0) (c .before .before .before .at .ensures), ap (λ (k : Sector). k .0) (c .before .before .at2 .ensures)))
+    sub-any-write-protected
     (λ c. search needs)
     (λ c. search needs)
-    (λ c κs. omega (arith, ap (λ (k : Sector). k .0) (c .before .before .before .at .ensures), ap (λ (k : Sector). k .0) (c .before .before .at2 .ensures)))
+    any-write-protected-requires
     (λ c. rw (c .before .before .before .before .at .ensures, c .before .before .before .at2 .ensures) at (c .any-write-protected .ensures)))

@@ -4,6 +4,15 @@ use Rattle.rules.specs.Rules.{writing}
 use Rattle.deciding.proofs.write.write.Statement.{statement}
 use Rattle.deciding.proofs.write.write.Tie as tie
 
+returns : tie.Need-returns
+unfolding writing
+returns c =
+    let after-write-at = c .before in
+    let after-place = after-write-at .before in
+    let after-write-verdict = after-place .before in
+    rw (← after-write-verdict .write-verdict .ensures, ← after-place .place .ensures, ← after-write-at .write-at .ensures)
+    (c .judged .ensures)
+
 pub write-spec : {M : Type 1} → statement M
 unfolding writing
 write-spec =
@@ -13,4 +22,4 @@ write-spec =
     (λ c κs. search needs)
     (λ c κs. search needs)
     (λ c κs. search needs)
-    (λ c. rw (← c .before .before .before .write-verdict .ensures, ← c .before .before .place .ensures, ← c .before .write-at .ensures) (c .judged .ensures)))
+    returns)
