@@ -1,7 +1,7 @@
 -- By the step: a frame is a command, or is gathered.
 use borrow.Author.Needs.{needs}
 use native.Mathlib.Omega.{arith}
-use mathlib.Core.Path.{sym, subst}
+use mathlib.Core.Path.{_≡_, sym, subst, _∙_}
 use lib.Dec.{T}
 use Rattle.can.specs.Steps.{expects}
 use Rattle.can.specs.declared.Step.{Step}
@@ -10,31 +10,29 @@ use Rattle.can.proofs.Steps.{counted, numbered}
 use Rattle.can_deciding.proofs.heard.Statement.{statement}
 use Rattle.can_deciding.proofs.heard.Tie as tie
 
+-- what is expected is what the step that was found may expect
+abbrev start : tie.After-of → tie.Start
+start c = c .before .before .before .before
+
+expected : (c : tie.After-of) {s : Step} → c .of .result ≡ s → T (expects s (start c .args .expected))
+expected c e = subst (λ (s : Step). T (expects s (start c .args .expected))) (sym (c .of .ensures) ∙ e) (start c .pre .1)
+
 write-frame-requires : tie.Need-write-frame-requires
 write-frame-requires c κs =
     let after-of = c .before .before in
-    let start = after-of .before .before .before .before in
-    let h =
-    counted (start .args .expected) (subst (λ (s : Step). T (expects s (start .args .expected))) (c .enum-told2 .given .1)
-    (subst (λ (s : Step). T (expects s (start .args .expected))) (sym (after-of .of .ensures)) (start .pre .1))) in
+    let h = counted (start after-of .args .expected) (expected after-of (c .enum-told2 .given .1)) in
     (omega arith, h .1, omega arith, omega arith)
 
 erase-frame-requires : tie.Need-erase-frame-requires
 erase-frame-requires c κs =
     let after-of = c .before .before in
-    let start = after-of .before .before .before .before in
-    let h =
-    numbered (start .args .expected) (subst (λ (s : Step). T (expects s (start .args .expected))) (c .enum-told3 .given .1)
-    (subst (λ (s : Step). T (expects s (start .args .expected))) (sym (after-of .of .ensures)) (start .pre .1))) in
+    let h = numbered (start after-of .args .expected) (expected after-of (c .enum-told3 .given .1)) in
     (omega arith, h .1, omega arith, omega arith, omega arith)
 
 protect-frame-requires : tie.Need-protect-frame-requires
 protect-frame-requires c κs =
     let after-of = c .before .before in
-    let start = after-of .before .before .before .before in
-    let h =
-    counted (start .args .expected) (subst (λ (s : Step). T (expects s (start .args .expected))) (c .enum-told4 .given .1)
-    (subst (λ (s : Step). T (expects s (start .args .expected))) (sym (after-of .of .ensures)) (start .pre .1))) in
+    let h = counted (start after-of .args .expected) (expected after-of (c .enum-told4 .given .1)) in
     (omega arith, h .1, omega arith, omega arith)
 
 pub heard-spec : {M : Type 1} → statement M

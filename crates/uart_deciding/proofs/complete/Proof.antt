@@ -2,7 +2,7 @@
 use borrow.Author.Needs.{needs}
 use native.Mathlib.Omega.{arith}
 use Rattle.uart.specs.Conversation.{complete}
-use mathlib.Core.Path.{subst}
+use mathlib.Core.Path.{_≡_, subst}
 use lib.Dec.{T}
 use Rattle.uart.specs.Steps.{expects}
 use Rattle.uart.specs.declared.Step.{Step}
@@ -10,28 +10,26 @@ use Rattle.uart.proofs.Steps.{counted, numbered}
 use Rattle.uart_deciding.proofs.complete.Statement.{statement}
 use Rattle.uart_deciding.proofs.complete.Tie as tie
 
+-- what is expected is what the step may expect
+expected : (c : tie.Start) {s : Step} → c .args .step ≡ s → T (expects s (c .args .expected))
+expected c e = subst (λ (s : Step). T (expects s (c .args .expected))) e (c .pre .0)
+
 write-ends-requires : tie.Need-write-ends-requires
 write-ends-requires c κs =
     let start = c .before .before .before .before in
-    let h =
-    counted (start .args .expected) (subst (λ (s : Step). T (expects s (start .args .expected))) (c .enum-told8 .given .1)
-    (start .pre .0)) in
+    let h = counted (start .args .expected) (expected start (c .enum-told8 .given .1)) in
     (omega arith, h .0, h .1, omega arith)
 
 erase-ends-requires : tie.Need-erase-ends-requires
 erase-ends-requires c κs =
     let start = c .before .before .before .before in
-    let h =
-    numbered (start .args .expected) (subst (λ (s : Step). T (expects s (start .args .expected))) (c .enum-told11 .given .1)
-    (start .pre .0)) in
+    let h = numbered (start .args .expected) (expected start (c .enum-told11 .given .1)) in
     (omega arith, h .0, h .1, omega arith)
 
 protect-ends-requires : tie.Need-protect-ends-requires
 protect-ends-requires c κs =
     let start = c .before .before .before .before in
-    let h =
-    counted (start .args .expected) (subst (λ (s : Step). T (expects s (start .args .expected))) (c .enum-told13 .given .1)
-    (start .pre .0)) in
+    let h = counted (start .args .expected) (expected start (c .enum-told13 .given .1)) in
     (h .0, h .1, omega arith)
 
 pub complete-spec : {M : Type 1} → statement M

@@ -1,7 +1,7 @@
 -- By the command: each is answered as the rule has it, and its DLC is the one that it must have.
 use borrow.Author.Needs.{needs}
 use native.Mathlib.Omega.{arith}
-use mathlib.Core.Path.{subst}
+use mathlib.Core.Path.{_≡_, subst}
 use lib.Dec.{T, eqb→eq}
 use lib.ListN.{length}
 use Rattle.command.specs.declared.Command.{Command}
@@ -9,43 +9,15 @@ use Rattle.can.specs.Conversation.{dlcFits, obeyed}
 use Rattle.can_deciding.proofs.obey.obeyed.Statement.{statement}
 use Rattle.can_deciding.proofs.obey.obeyed.Tie as tie
 
-read-memory-requires : tie.Need-read-memory-requires
-read-memory-requires c κs =
-    let start = c .before .before .before .before in
-    subst (λ (k : Command). T (dlcFits k (length (start .args .carried .now)))) (c .enum-told4 .given .1) (start .pre .1)
+-- the frame carries as many bytes as the command needs
+fits : (c : tie.Start) {k : Command} → c .args .command ≡ k → T (dlcFits k (length (c .args .carried .now)))
+fits c e = subst (λ (k : Command). T (dlcFits k (length (c .args .carried .now)))) e (c .pre .1)
 
 address-in-requires : tie.Need-address-in-requires
 address-in-requires c κs =
     let start = c .before .before .before .before in
-    let h =
-    eqb→eq (length (start .args .carried .now)) 4 (subst (λ (k : Command). T (dlcFits k (length (start .args .carried .now))))
-    (c .enum-told5 .given .1) (start .pre .1)) in
+    let h = eqb→eq (length (start .args .carried .now)) 4 (fits start (c .enum-told5 .given .1)) in
     omega arith
-
-write-memory-requires : tie.Need-write-memory-requires
-write-memory-requires c κs =
-    let start = c .before .before .before .before in
-    (start .pre .0, subst (λ (k : Command). T (dlcFits k (length (start .args .carried .now)))) (c .enum-told6 .given .1) (start .pre .1))
-
-erase-requires : tie.Need-erase-requires
-erase-requires c κs =
-    let start = c .before .before .before .before in
-    (start .pre .0, subst (λ (k : Command). T (dlcFits k (length (start .args .carried .now)))) (c .enum-told7 .given .1) (start .pre .1))
-
-program-protect-requires : tie.Need-program-protect-requires
-program-protect-requires c κs =
-    let start = c .before .before .before .before in
-    subst (λ (k : Command). T (dlcFits k (length (start .args .carried .now)))) (c .enum-told8 .given .1) (start .pre .1)
-
-firmware-crc-requires : tie.Need-firmware-crc-requires
-firmware-crc-requires c κs =
-    let start = c .before .before .before .before in
-    subst (λ (k : Command). T (dlcFits k (length (start .args .carried .now)))) (c .enum-told12 .given .1) (start .pre .1)
-
-set-speed-requires : tie.Need-set-speed-requires
-set-speed-requires c κs =
-    let start = c .before .before .before .before in
-    subst (λ (k : Command). T (dlcFits k (length (start .args .carried .now)))) (c .enum-told14 .given .1) (start .pre .1)
 
 pub obeyed-spec : {M : Type 1} → statement M
 unfolding obeyed
@@ -59,28 +31,28 @@ obeyed-spec =
     (λ c. search needs)
     (λ c κs. search needs)
     (λ c. search needs)
-    read-memory-requires
+    (λ c κs. fits (c .before .before .before .before) (c .enum-told4 .given .1))
     (λ c. search needs)
     address-in-requires
     (λ c κs. search needs)
     (λ c. search needs)
-    write-memory-requires
+    (λ c κs. (c .before .before .before .before .pre .0, fits (c .before .before .before .before) (c .enum-told6 .given .1)))
     (λ c. search needs)
-    erase-requires
+    (λ c κs. (c .before .before .before .before .pre .0, fits (c .before .before .before .before) (c .enum-told7 .given .1)))
     (λ c. search needs)
-    program-protect-requires
-    (λ c. search needs)
-    (λ c κs. search needs)
+    (λ c κs. fits (c .before .before .before .before) (c .enum-told8 .given .1))
     (λ c. search needs)
     (λ c κs. search needs)
     (λ c. search needs)
     (λ c κs. search needs)
     (λ c. search needs)
-    firmware-crc-requires
+    (λ c κs. search needs)
+    (λ c. search needs)
+    (λ c κs. fits (c .before .before .before .before) (c .enum-told12 .given .1))
     (λ c. search needs)
     (λ c κs. search needs)
     (λ c. search needs)
-    set-speed-requires
+    (λ c κs. fits (c .before .before .before .before) (c .enum-told14 .given .1))
     (λ c. rw (c .before .enum-told .given .1) (c .tell .ensures))
     (λ c. rw (c .before .enum-told2 .given .1) (c .tell2 .ensures))
     (λ c. rw (c .before .enum-told3 .given .1) (c .tell3 .ensures))
