@@ -10,10 +10,11 @@ use Rattle.can.proofs.Steps.{counted, numbered}
 use Rattle.can_deciding.proofs.heard.Statement.{statement}
 use Rattle.can_deciding.proofs.heard.Tie as tie
 
--- what is expected is what the step that was found may expect
+-- the start of the call in which a step was found
 abbrev start : tie.After-of → tie.Start
 start c = c .before .before .before .before
 
+-- what is expected is what that step may expect
 expected : (c : tie.After-of) {s : Step} → c .of .result ≡ s → T (expects s (start c .args .expected))
 expected c e = subst (λ (s : Step). T (expects s (start c .args .expected))) (sym (c .of .ensures) ∙ e) (start c .pre .1)
 

@@ -7,7 +7,6 @@ use Rattle.effects.proofs.erase_sector.Statement.{statement}
 use Rattle.effects.proofs.erase_sector.Tie as tie
 
 fill-requires : tie.Need-fill-requires
-unfolding blank
 fill-requires c κs =
     let start = c .before .before .before in
     let h = ltb→lt (start .args .sector .0) 32 (start .pre .1) in

@@ -10,10 +10,11 @@ use Rattle.gathering.proofs.Silent.{all-three}
 use Rattle.gathering.proofs.silent_bytes.Statement.{statement}
 use Rattle.gathering.proofs.silent_bytes.Tie as tie
 
--- what the test has shown of the lengths and the session
+-- the start of the call whose test held
 abbrev start : tie.Then1 → tie.Start
 start c = c .before .before .before .before
 
+-- what the test has shown of the lengths and the session
 tested : (c : tie.Then1)
     → T (lengthsRight (start c .args .flash) (start c .args .sram) (start c .args .usd)) × T (on Uart (start c .args .session))
     × T (sound (start c .args .session))

@@ -13,7 +13,6 @@ returns c =
     rw (← after-known .known .ensures, ← after-place .place .ensures, ← after-read-at .read-at .ensures) (c .accept-if .ensures)
 
 pub read-spec : {M : Type 1} → statement M
-unfolding reading
 read-spec =
     tie.close
     (tie.spec

@@ -13,7 +13,6 @@ returns c =
     rw (← after-sector-start .sector-start .ensures, ← after-place .place .ensures, ← after-sum-at .sum-at .ensures) (c .accept-if .ensures)
 
 pub sum-spec : {M : Type 1} → statement M
-unfolding summing
 sum-spec =
     tie.close
     (tie.spec

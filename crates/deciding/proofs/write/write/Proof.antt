@@ -14,7 +14,6 @@ returns c =
     (c .judged .ensures)
 
 pub write-spec : {M : Type 1} → statement M
-unfolding writing
 write-spec =
     tie.close
     (tie.spec
