@@ -1,7 +1,7 @@
 -- The example of document 01 holds, by computing the definitions over the whole board.
 use mathlib.Core.Path.{refl}
 use Rattle.board.specs.Regions as R
-use Rattle.board.specs.Usd as U
+use Rattle.board.specs.View as W
 use Rattle.memories.specs.Effects as E
 use Rattle.command.specs.Decision as D
 use Rattle.command.specs.Says as S
@@ -16,5 +16,5 @@ use Rattle.answers.specs.Answers.{tell, tells, answerBy, answer}
 use Rattle.answers.specs.Example.{Example}
 
 pub example : Example
-unfolding kindOf tell tells answerBy answer BK.call BK.perform BK.sent BK.decide BK.causeFor BC.causeOf BD.connected BD.decideByte BD.decideFrame BS.after BS.sound UC.obeyed UC.commanded UC.complete UC.heard S.says Q.unlessProtected D.if_gives_else_ E.effect U.writeProtected R.placeOf
+unfolding kindOf tell tells answerBy answer BK.call BK.perform BK.sent BK.decide BK.causeFor BC.causeOf BD.connected BD.decideByte BD.decideFrame BS.after BS.sound UC.obeyed UC.commanded UC.complete UC.heard S.says Q.unlessProtected D.if_gives_else_ E.effect W.viewOf W.writeProtected R.placeOf
 example = record { answers = refl }

@@ -11,13 +11,14 @@ use lib.Seq.{take-append-seam}
 use Rattle.words.specs.Over.{put, newer}
 use Rattle.words.proofs.Over.{over-none, put-one, put-then}
 use Rattle.words.specs.Choice.{if_then_else_}
+use Rattle.memories.specs.Memories.{memories}
 use Rattle.memories.specs.Effects.{effect}
 use Rattle.command.specs.Says.{says}
 use Rattle.frames.specs.Frames.{classic, frameBytes, frameIn}
 use Rattle.frames.proofs.Cutting.{framed-whole}
 use Rattle.boot.specs.Session.{after}
 use Rattle.boot.specs.Causes.{accepts}
-use Rattle.boot.specs.Calls.{State, powered, Input, Power, Byte, Framed, commandsOf, bears, causeFor, decide, sent, perform, refused, call}
+use Rattle.boot.specs.Calls.{State, powered, Input, Power, Byte, Framed, commandsOf, bears, viewIn, causeFor, decide, sent, perform, refused, call}
 use Rattle.boot.specs.Promise.{Given, Left, givenByte, stateOf, outcome, Took}
 use Rattle.boot.specs.declared.Session.{Session}
 use Rattle.words.specs.Hex.{space}
@@ -76,12 +77,12 @@ module _ (input : ℕ → Input) (s : Session) (flash sram usd lent : List ℕ) 
       }
 
 -- a byte was taken, and its reply printed in three characters each
-pub byte-told : (s : Session) (b : ℕ) (flash sram usd lent : List ℕ) → length lent ≡ deskRoom → (l : Left) → Took (givenByte s b flash sram usd lent) l
+pub byte-told : (s : Session) (b : ℕ) (flash sram usd lent : List ℕ) → length lent ≡ deskRoom → (l : Left) → Took (givenByte s b (memories flash sram usd) lent) l
     → (at end : ℕ) (out out' : List ℕ) → end ≡ at + l .result .length * 3
     → out' ≡ put out at (spelled (take (l .result .length) (l .buffer)))
     → Tells (tell (Byte deskRoom b) (stateOf s flash sram usd)) at out end out' (stateOf (l .result .session) (l .flash) (l .sram) (l .usd))
 byte-told s b flash sram usd lent room l t at end out out' e w =
-    let r = ap length (took-reply (givenByte s b flash sram usd lent) l t) ∙ sym (t .count) in
+    let r = ap length (took-reply (givenByte s b (memories flash sram usd) lent) l t) ∙ sym (t .count) in
     let k = length-spelled (take (l .result .length) (l .buffer)) in
     input-told (λ (n : ℕ). Byte n b) s flash sram usd lent room l t at end out out' (omega arith) w
 
@@ -91,8 +92,8 @@ unfolding call perform sent
 frame-whole room f p = by-cause (accepts (causeFor (Framed room f) p))
   where
     by-cause : (a : Bool)
-        → length ((if a then perform (Framed room f) p (decide (Framed room f) (p .session) (p .memories .usd)) else refused (causeFor (Framed room f) p) p) .reply) % frameBytes classic ≡ 0
-    by-cause true = framed-whole (bears (p .session) (frameIn f .id)) (says (commandsOf (Framed room f)) (decide (Framed room f) (p .session) (p .memories .usd) .reply) (p .memories))
+        → length ((if a then perform (Framed room f) p (decide (Framed room f) (p .session) (viewIn p)) else refused (causeFor (Framed room f) p) p) .reply) % frameBytes classic ≡ 0
+    by-cause true = framed-whole (bears (p .session) (frameIn f .id)) (says (commandsOf (Framed room f)) (decide (Framed room f) (p .session) (viewIn p) .reply) (p .memories))
     by-cause false = refl
 
 -- one call that is told is all that is

@@ -3,10 +3,12 @@
 use mathlib.Core.Path.{_≡_, refl}
 use mathlib.Core.Bool.{true, false}
 use mathlib.Core.List.{[], _∷_, map}
+use Rattle.words.specs.Lists.{countFrom}
 use Rattle.board.specs.Board.{address}
 use Rattle.board.specs.Quantities.{sector, startOf, isSector}
 use Rattle.board.specs.Regions.{placeOf}
 use Rattle.board.specs.Usd.{protectionOn, bitByte, bitPlace}
+use Rattle.board.specs.View.{viewOf, writeProtected}
 use Rattle.board.specs.declared.Place.the-variants.{In, Nowhere}
 use Rattle.board.specs.declared.Region.the-variants.{Flash, Sram, Usd}
 
@@ -43,3 +45,11 @@ pub of-usd :
     × (map bitByte (sector 0 ∷ sector 31 ∷ []) ≡ 8 ∷ 11 ∷ [])
     × (map bitPlace (sector 0 ∷ sector 31 ∷ []) ≡ 0 ∷ 7 ∷ [])
 of-usd = (refl, refl, refl)
+
+-- a view holds these, and of the sectors 0, 1 and 31 here the last two are write-protected
+pub of-view :
+    (viewOf (countFrom 0 64) ≡ record { locked = true; bits = 8 ∷ 9 ∷ 10 ∷ 11 ∷ [] })
+    × (map (writeProtected (record { locked = false; bits = 0xFD ∷ 0xFF ∷ 0xFF ∷ 0x7F ∷ [] })) (sector 0 ∷ sector 1 ∷ sector 31 ∷ [])
+    ≡ false ∷ true ∷ true ∷ [])
+unfolding viewOf writeProtected
+of-view = (refl, refl)

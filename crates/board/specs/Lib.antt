@@ -2,3 +2,4 @@ pub mod Board
 pub mod Quantities
 pub mod Regions
 pub mod Usd
+pub mod View

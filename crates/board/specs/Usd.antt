@@ -4,7 +4,7 @@ use mathlib.Core.Bool.{Bool, not}
 use mathlib.Core.List.{List}
 use lib.ListN.{getD}
 use lib.Dec.{eqb}
-use Rattle.words.specs.Bytes.{bit, byteBits}
+use Rattle.words.specs.Bytes.{byteBits}
 use Rattle.words.specs.Over.{within}
 use Rattle.board.specs.Board.{layout, sectors}
 use Rattle.board.specs.declared.Sector.{Sector}
@@ -13,16 +13,15 @@ use Rattle.board.specs.declared.Sector.{Sector}
 abbrev pub protectionOn : List ℕ → Bool
 protectionOn u = not (eqb (getD u (layout .protection) 0) (layout .«protection_off»))
 
--- sector k is bit k mod 8 of byte 8 + k/8
+-- sector k is bit k mod 8 of byte 8 + k/8, which is byte k/8 of those that hold the sectors' bits
+abbrev pub bitIndex : Sector → ℕ
+bitIndex k = k .0 / byteBits
+
 abbrev pub bitByte : Sector → ℕ
-bitByte k = layout .«sector_bits» + k .0 / byteBits
+bitByte k = layout .«sector_bits» + bitIndex k
 
 abbrev pub bitPlace : Sector → ℕ
 bitPlace k = k .0 % byteBits
-
--- 0 means write-protected
-unfoldable pub writeProtected : List ℕ → Sector → Bool
-writeProtected u k = eqb (bit (getD u (bitByte k) 0) (bitPlace k)) 0
 
 -- how many bytes hold the sectors' bits
 abbrev pub bitBytes : ℕ

@@ -13,6 +13,15 @@ pub struct Sector(pub u16);
 // A count sent as one less.
 pub struct LessOne(pub u16);
 
+// How many bytes of user system data hold the sectors' bits.
+pub const BIT_BYTES: usize = Board::SECTORS / 8;
+
+// What the board may look at when it decides: whether protection is on, and the bytes that hold the sectors' bits.
+pub struct View {
+    pub locked: bool,
+    pub bits: [u8; BIT_BYTES],
+}
+
 // The three regions.
 pub enum Region {
     Flash,

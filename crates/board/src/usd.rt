@@ -5,9 +5,11 @@ ghost use lib.ListN.{length};
 ghost use Rattle.words.specs.Lists.{any};
 ghost use Rattle.board.specs.Board.{extentOf, sectors};
 ghost use Rattle.board.specs.Quantities.{isSector, sectorsFrom};
-ghost use Rattle.board.specs.Usd.{protectionOn, writeProtected};
+ghost use Rattle.board.specs.Usd.{protectionOn};
+ghost use Rattle.board.specs.View.{viewOf, writeProtected};
 ghost use Rattle.board.specs.declared.Region.the-variants.{Usd};
 use crate::Sector;
+use crate::View;
 use constants::Board;
 
 // Whether protection is on.
@@ -18,30 +20,46 @@ pub fn protection_on(usd: &[u8]) -> bool
     usd[Board::PROTECTION] != Board::PROTECTION_OFF
 }
 
-// Whether a sector is write-protected.
-pub fn write_protected(usd: &[u8], sector: Sector) -> bool
-    requires { ⌜ (length (now usd) ≡ extentOf Usd .bytes) × T (isSector sector) ⌝ }
-    ensures { λ r. ⌜ r ≡ writeProtected (now (usd .entry)) sector ⌝ }
-{
-    let k = sector.0;
-    let byte = Board::SECTOR_BITS + (k >> 3) as usize;
-    let bit = k & 7;
-    (usd[byte] >> bit) & 1 == 0
-}
-
-// Whether one of n sectors in order is write-protected.
-pub fn any_write_protected(usd: &[u8], first: Sector, n: usize) -> bool
-    requires { ⌜ (length (now usd) ≡ extentOf Usd .bytes) × (first .0 + n ≤ sectors .count) ⌝ }
-    ensures { λ r. ⌜ r ≡ any (writeProtected (now (usd .entry))) (sectorsFrom first n) ⌝ }
-{
-    let mut k = first.0;
-    let mut left = n;
-    while 0 < left {
-        if write_protected(usd, Sector(k)) {
-            return true;
+impl View {
+    // What of user system data the board may look at.
+    pub fn of(usd: &[u8]) -> View
+        requires { ⌜ length (now usd) ≡ extentOf Usd .bytes ⌝ }
+        ensures { λ r. ⌜ r ≡ viewOf (now (usd .entry)) ⌝ }
+    {
+        let at = Board::SECTOR_BITS;
+        let bits = [usd[at], usd[at + 1], usd[at + 2], usd[at + 3]];
+        View {
+            locked: protection_on(usd),
+            bits: bits,
         }
-        k += 1;
-        left -= 1;
     }
-    false
+
+    // Whether a sector is write-protected.
+    pub fn write_protected(self, sector: Sector) -> bool
+        requires { ⌜ T (isSector sector) ⌝ }
+        ensures { λ r. ⌜ r ≡ writeProtected self sector ⌝ }
+    {
+        let k = sector.0;
+        let bits = self.bits;
+        let byte = (k >> 3) as usize;
+        let bit = k & 7;
+        (bits[byte] >> bit) & 1 == 0
+    }
+
+    // Whether one of n sectors in order is write-protected.
+    pub fn any_write_protected(self, first: Sector, n: usize) -> bool
+        requires { ⌜ first .0 + n ≤ sectors .count ⌝ }
+        ensures { λ r. ⌜ r ≡ any (writeProtected self) (sectorsFrom first n) ⌝ }
+    {
+        let mut k = first.0;
+        let mut left = n;
+        while 0 < left {
+            if self.write_protected(Sector(k)) {
+                return true;
+            }
+            k += 1;
+            left -= 1;
+        }
+        false
+    }
 }

@@ -5,7 +5,8 @@ use Prim.Native.Nat.{ℕ}
 use lib.Dec.{T, eqb}
 use lib.ListN.{length, drop}
 use lib.Seq.{take-length}
-use Rattle.memories.specs.Memories.{Memories, memories}
+use Rattle.board.specs.declared.View.{View}
+use Rattle.memories.specs.Memories.{Memories}
 use Rattle.memories.specs.Effects.{effect}
 use Rattle.command.specs.Progress.{progressAt, stagedWith}
 use Rattle.command.specs.Says.{says, Said}
@@ -16,49 +17,53 @@ use Rattle.frames.specs.Frames.{classic, frameIn, frameOf, isFrame, carried, fr
 use Rattle.frames.proofs.Frames.{carried-length}
 use Rattle.boot.specs.Session.{progress, gathered, after}
 use Rattle.boot.specs.Decide.{connected, decideFrame}
-use Rattle.boot.specs.Calls.{Input, carrierOf, brings, commandsOf, decide, sent, perform}
-use Rattle.boot.specs.Promise.{left, stateOf, acceptedTaken, Leaves}
+use Rattle.boot.specs.Calls.{State, Input, carrierOf, brings, viewIn, commandsOf, decide, sent, perform}
+use Rattle.boot.specs.Promise.{left, acceptedTaken, Leaves}
 use Rattle.carriers.specs.declared.Carrier.the-variants.{Can}
 use Rattle.boot.specs.declared.Session.{Session}
 use Rattle.boot.specs.declared.Taken.{Taken}
 
-module _ (i : Input) (s : Session) (usd : List ℕ) (t : Session) (et : t ≡ gathered (brings i) s) (d : Decision) (ed : d ≡ decide i s usd)
-    (flash sram buffer : List ℕ) where
+module _ (i : Input) (p : State) (view : View) (ev : view ≡ viewIn p) (t : Session) (et : t ≡ gathered (brings i) (p .session))
+    (d : Decision) (ed : d ≡ decide i (p .session) view) (buffer : List ℕ) where
+  -- the view is that of the state
+  decided : d ≡ decide i (p .session) (viewIn p)
+  decided = ed ∙ ap (decide i (p .session)) ev
+
   -- the bytes that a decision has said
   abbrev pub said : Decision → List ℕ
-  said e = sent i s (says (commandsOf i) (e .reply) (memories flash sram usd))
+  said e = sent i (p .session) (says (commandsOf i) (e .reply) (p .memories))
 
-  pub input-leaves : {count : ℕ} {r : Taken} {flash' sram' usd' buffer' : List ℕ}
+  pub input-leaves : {count : ℕ} {r : Taken} {m : Memories} {buffer' : List ℕ}
       → Said (said d) count buffer buffer'
-      → memories flash' sram' usd' ≡ effect (d .change) (t .staged) (memories flash sram usd)
-      → r ≡ acceptedTaken (carrierOf i) s t (d .next) count
-      → Leaves (perform i (stateOf s flash sram usd) (decide i s usd)) buffer (left r flash' sram' usd' buffer')
+      → m ≡ effect (d .change) (t .staged) (p .memories)
+      → r ≡ acceptedTaken (carrierOf i) (p .session) t (d .next) count
+      → Leaves (perform i p (decide i (p .session) (viewIn p))) buffer (left r m buffer')
   unfolding perform
-  input-leaves {flash' = flash'} {sram' = sram'} {usd' = usd'} es em er = record {
+  input-leaves {m = m} es em er = record {
     number = ap (λ (z : Taken). z .number) er;
-    count = ap (λ (z : Taken). z .length) er ∙ es .count ∙ ap (λ (e : Decision). length (said e)) ed;
+    count = ap (λ (z : Taken). z .length) er ∙ es .count ∙ ap (λ (e : Decision). length (said e)) decided;
     session =
-        ap (λ (z : Taken). z .session) er ∙ ap (λ (z : Session). after (carrierOf i) z (d .next) s) et
-        ∙ ap (λ (e : Decision). after (carrierOf i) (gathered (brings i) s) (e .next) s) ed;
+        ap (λ (z : Taken). z .session) er ∙ ap (λ (z : Session). after (carrierOf i) z (d .next) (p .session)) et
+        ∙ ap (λ (e : Decision). after (carrierOf i) (gathered (brings i) (p .session)) (e .next) (p .session)) decided;
     flash = ap (λ (z : Memories). z .flash) carried;
     sram = ap (λ (z : Memories). z .sram) carried;
     usd = ap (λ (z : Memories). z .usd) carried;
-    buffer = es .buffer ∙ ap (λ (e : Decision). said e ++ drop (length (said e)) buffer) ed;
+    buffer = es .buffer ∙ ap (λ (e : Decision). said e ++ drop (length (said e)) buffer) decided;
   }
     where
-      carried : memories flash' sram' usd' ≡ effect (decide i s usd .change) (gathered (brings i) s .staged) (memories flash sram usd)
+      carried : m ≡ effect (decide i (p .session) (viewIn p) .change) (gathered (brings i) (p .session) .staged) (p .memories)
       carried =
-          em ∙ ap (λ (z : Session). effect (d .change) (z .staged) (memories flash sram usd)) et
-          ∙ ap (λ (e : Decision). effect (e .change) (gathered (brings i) s .staged) (memories flash sram usd)) ed
+          em ∙ ap (λ (z : Session). effect (d .change) (z .staged) (p .memories)) et
+          ∙ ap (λ (e : Decision). effect (e .change) (gathered (brings i) (p .session) .staged) (p .memories)) decided
 
 -- a frame decides what its ID and the data bytes that count do
-pub frame-decided : (s : Session) (usd l : List ℕ) → T (isFrame classic l)
-    → {id : ℕ} {c : List ℕ} {d : Decision} → id ≡ frameIn l .id → c ≡ carried (frameIn l) → d ≡ decideFrame s usd (frameOf id c)
-    → d ≡ decideFrame s usd (frameIn l)
+pub frame-decided : (s : Session) (view : View) (l : List ℕ) → T (isFrame classic l)
+    → {id : ℕ} {c : List ℕ} {d : Decision} → id ≡ frameIn l .id → c ≡ carried (frameIn l) → d ≡ decideFrame s view (frameOf id c)
+    → d ≡ decideFrame s view (frameIn l)
 unfolding decideFrame CC.heard
-frame-decided s usd l t {c = c} ei ec ed =
-    ed ∙ ap (λ (n : ℕ). decideFrame s usd (frameOf n c)) ei
-    ∙ ap (λ (b : List ℕ). decideFrame s usd (frameOf (frameIn l .id) b)) ec
+frame-decided s view l t {c = c} ei ec ed =
+    ed ∙ ap (λ (n : ℕ). decideFrame s view (frameOf n c)) ei
+    ∙ ap (λ (b : List ℕ). decideFrame s view (frameOf (frameIn l .id) b)) ec
     ∙ ap (λ (b : List ℕ). hears b (length (carried (frameIn l))) b) (take-length (carried (frameIn l)))
     ∙ ap (λ (n : ℕ). hears (carried (frameIn l)) n (carried (frameIn l))) (carried-length l t)
   where
@@ -66,7 +71,7 @@ frame-decided s usd l t {c = c} ei ec ed =
     hears c n b =
         connected Can s (eqb (frameIn l .id) CC.connectId)
         (CC.decided (C.stepOf (s .step))
-        (progressAt (s .taken) (s .expected) (s .address) (stagedWith (progress s) c)) usd
+        (progressAt (s .taken) (s .expected) (s .address) (stagedWith (progress s) c)) view
         (record { id = frameIn l .id; dlc = n; bytes = b }))
 
 -- messages under an ID are the same under the ID that it is

@@ -9,7 +9,7 @@ use lib.Dec.{T}
 use Rattle.words.specs.Choice.{if_then_else_}
 use Rattle.boot.specs.Session.{on, sound}
 use Rattle.boot.specs.Causes.{accepts, causeOf}
-use Rattle.boot.specs.Calls.{Outcome, causeFor, decide, perform, call}
+use Rattle.boot.specs.Calls.{Outcome, viewIn, causeFor, decide, perform, call}
 use Rattle.boot.specs.Promise.{Given, Left, left, refusedTaken, outcome, Leaves, Took}
 use Rattle.carriers.specs.declared.Carrier.the-variants.{Running}
 use Rattle.boot.specs.declared.Cause.{Cause}
@@ -57,7 +57,7 @@ clear m r f s accepted ec ea h = accepted-clear m r f s (ap accepts (sym ec) ∙
 
 -- what comes of a call where it is accepted
 abbrev pub performed : Given → Outcome
-performed g = perform (g .input) (g .state) (decide (g .input) (g .state .session) (g .state .memories .usd))
+performed g = perform (g .input) (g .state) (decide (g .input) (g .state .session) (viewIn (g .state)))
 
 module _ (g : Given) (c : Cause) (ec : c ≡ causeFor (g .input) (g .state)) where
   -- an accepted call leaves what its decision does
@@ -69,7 +69,7 @@ module _ (g : Given) (c : Cause) (ec : c ≡ causeFor (g .input) (g .state)) whe
 
   -- a refused call leaves everything as it was
   pub refused-took : {r : Taken} → accepts c ≡ false → r ≡ refusedTaken c (g .state .session)
-      → Took g (left r (g .state .memories .flash) (g .state .memories .sram) (g .state .memories .usd) (g .buffer))
+      → Took g (left r (g .state .memories) (g .buffer))
   unfolding outcome call
   refused-took h e =
       rw (← ec, h)

@@ -7,6 +7,7 @@ use lib.Dec.{T}
 use lib.ListN.{getD}
 use lib.Seq.{take-length}
 use Rattle.board.specs.Quantities.{addressBytes}
+use Rattle.board.specs.declared.View.{View}
 use Rattle.command.specs.Progress.{stagedWith}
 use Rattle.command.specs.declared.Decision.{Decision}
 use Rattle.command.proofs.Holds.{Holds, either, split}
@@ -31,21 +32,21 @@ unfolding connected
 connected-good staged c s calls f = split (Good staged) (on c s) f (λ o. either (Good staged) _ (told _ tt) (told _ tt))
 
 -- one UART byte
-pub byte-good : (s : Session) (usd : List ℕ) (b : ℕ) → T (sound s) → getD (stagedWith (progress s) (b ∷ [])) 0 0 < 256
-    → Holds (Good (stagedWith (progress s) (b ∷ []))) (decideByte s usd b)
+pub byte-good : (s : Session) (view : View) (b : ℕ) → T (sound s) → getD (stagedWith (progress s) (b ∷ [])) 0 0 < 256
+    → Holds (Good (stagedWith (progress s) (b ∷ []))) (decideByte s view b)
 unfolding decideByte UC.heard
-byte-good s usd b t h =
+byte-good s view b t h =
     let staged = stagedWith (progress s) (b ∷ []) in
     connected-good staged Uart s _
-    (λ o. either (Good staged) _ (told _ tt) (complete-good _ h (U.stepOf (s .step)) (s .expected) (uart-expects s t o) (s .address) usd))
+    (λ o. either (Good staged) _ (told _ tt) (complete-good _ h (U.stepOf (s .step)) (s .expected) (uart-expects s t o) (s .address) view))
 
 -- one CAN frame
-pub frame-good : (s : Session) (usd : List ℕ) (f : Frame) → T (sound s) → getD (carried f) addressBytes 0 < 256
-    → Holds (Good (stagedWith (progress s) (carried f))) (decideFrame s usd f)
+pub frame-good : (s : Session) (view : View) (f : Frame) → T (sound s) → getD (carried f) addressBytes 0 < 256
+    → Holds (Good (stagedWith (progress s) (carried f))) (decideFrame s view f)
 unfolding decideFrame
-frame-good s usd f t h =
+frame-good s view f t h =
     connected-good (stagedWith (progress s) (carried f)) Can s _
-    (λ o. CG.heard-good (C.stepOf (s .step)) (progress s) (can-expects s t o) usd f h)
+    (λ o. CG.heard-good (C.stepOf (s .step)) (progress s) (can-expects s t o) view f h)
 
 -- ---- and so it can with the session as it was gathered and the decision as it was made
 
@@ -54,16 +55,16 @@ same-good {t = t} {e = e} et ed h =
     subst (λ (x : Decision). Good (t .staged) x) (sym ed) (subst (λ (z : Session). Good (z .staged) e) (sym et) h)
 
 -- a byte's, where the first staged byte is below 256
-pub byte-can : (b : ℕ) (s : Session) (usd : List ℕ) {t : Session} {d : Decision} → t ≡ gathered (b ∷ []) s → d ≡ decideByte s usd b
+pub byte-can : (b : ℕ) (s : Session) (view : View) {t : Session} {d : Decision} → t ≡ gathered (b ∷ []) s → d ≡ decideByte s view b
     → T (sound s) → getD (t .staged) 0 0 < 256 → Good (t .staged) d
-byte-can b s usd et ed k h =
-    same-good et ed (byte-good s usd b k (subst (λ (z : Session). getD (z .staged) 0 0 < 256) et h) .holds)
+byte-can b s view et ed k h =
+    same-good et ed (byte-good s view b k (subst (λ (z : Session). getD (z .staged) 0 0 < 256) et h) .holds)
 
 -- a frame's, where the data byte behind an address is below 256
-pub frame-can : (id : ℕ) (c : List ℕ) (s : Session) (usd : List ℕ) {t : Session} {d : Decision} → t ≡ gathered c s
-    → d ≡ decideFrame s usd (frameOf id c) → T (sound s) → getD c addressBytes 0 < 256 → Good (t .staged) d
-frame-can id c s usd et ed k h =
+pub frame-can : (id : ℕ) (c : List ℕ) (s : Session) (view : View) {t : Session} {d : Decision} → t ≡ gathered c s
+    → d ≡ decideFrame s view (frameOf id c) → T (sound s) → getD c addressBytes 0 < 256 → Good (t .staged) d
+frame-can id c s view et ed k h =
     let whole = take-length c in
     same-good et ed
-    (subst (λ (b : List ℕ). Good (stagedWith (progress s) b) (decideFrame s usd (frameOf id c))) whole
-    (frame-good s usd (frameOf id c) k (subst (λ (b : List ℕ). getD b addressBytes 0 < 256) (sym whole) h) .holds))
+    (subst (λ (b : List ℕ). Good (stagedWith (progress s) b) (decideFrame s view (frameOf id c))) whole
+    (frame-good s view (frameOf id c) k (subst (λ (b : List ℕ). getD b addressBytes 0 < 256) (sym whole) h) .holds))

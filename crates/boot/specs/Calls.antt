@@ -5,6 +5,8 @@ use mathlib.Core.List.{List, [], _∷_}
 use lib.Dec.{leb}
 use Rattle.words.specs.Choice.{if_then_else_}
 use Rattle.words.specs.Lists.{join}
+use Rattle.board.specs.View.{viewOf}
+use Rattle.board.specs.declared.View.{View}
 use Rattle.memories.specs.Memories.{Memories, proper}
 use Rattle.memories.specs.Effects.{effect}
 use Rattle.command.specs.Decision.{if_gives_else_, answer}
@@ -65,11 +67,15 @@ causeFor Power p = Accepted
 causeFor (Byte room b) p = causeOf (proper (p .memories)) (leb UC.uartRoom room) true (p .session)
 causeFor (Framed room l) p = causeOf (proper (p .memories)) (leb CC.canRoom room) (isFrame classic l) (p .session)
 
+-- what the board may look at in a state
+abbrev pub viewIn : State → View
+viewIn p = viewOf (p .memories .usd)
+
 -- what is decided on an input that is accepted
-unfoldable pub decide : Input → Session → List ℕ → Decision
-decide Power s usd = answer Silence Reset
-decide (Byte room b) s usd = decideByte s usd b
-decide (Framed room l) s usd = decideFrame s usd (frameIn l)
+unfoldable pub decide : Input → Session → View → Decision
+decide Power s view = answer Silence Reset
+decide (Byte room b) s view = decideByte s view b
+decide (Framed room l) s view = decideFrame s view (frameIn l)
 
 -- what a carrier tells of its commands
 abbrev pub commandsOf : Input → List ℕ
@@ -105,12 +111,12 @@ refused c p = record { cause = c; reply = []; state = p }
 -- one call
 unfoldable pub call : Input → State → Outcome
 call i p =
-    if accepts (causeFor i p) then perform i p (decide i (p .session) (p .memories .usd))
+    if accepts (causeFor i p) then perform i p (decide i (p .session) (viewIn p))
     else refused (causeFor i p) p
 
 -- what is done: as decided where the call is accepted, and nothing where it is refused
 unfoldable pub done : Input → State → Decision
-done i p = if accepts (causeFor i p) gives decide i (p .session) (p .memories .usd) else answer Silence Stay
+done i p = if accepts (causeFor i p) gives decide i (p .session) (viewIn p) else answer Silence Stay
 
 -- ---- runs of inputs, power cycles among them
 

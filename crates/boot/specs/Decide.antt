@@ -1,8 +1,8 @@
--- What an input is decided to do: session, input and user system data are seen, flash and SRAM never.
+-- What an input is decided to do: session, input and view are seen, and no memory.
 use Prim.Native.Nat.{ℕ}
 use mathlib.Core.Bool.{Bool, _&&_}
-use mathlib.Core.List.{List}
 use lib.Dec.{eqb}
+use Rattle.board.specs.declared.View.{View}
 use Rattle.command.specs.Decision.{if_gives_else_, answer}
 use Rattle.command.specs.declared.Decision.{Decision}
 use Rattle.command.specs.declared.Next.the-variants.{Stay, GoIdle}
@@ -26,11 +26,11 @@ unfoldable pub connected : Carrier → Session → Bool → Decision → Decisio
 connected c s calls heard = if on c s gives heard else unconnected s calls
 
 -- one UART byte
-unfoldable pub decideByte : Session → List ℕ → ℕ → Decision
-decideByte s usd b =
-    connected Uart s (eqb b UC.connectByte) (UC.heard (U.stepOf (s .step)) (progress s) usd b)
+unfoldable pub decideByte : Session → View → ℕ → Decision
+decideByte s view b =
+    connected Uart s (eqb b UC.connectByte) (UC.heard (U.stepOf (s .step)) (progress s) view b)
 
 -- one CAN frame
-unfoldable pub decideFrame : Session → List ℕ → Frame → Decision
-decideFrame s usd f =
-    connected Can s (eqb (f .id) CC.connectId) (CC.heard (C.stepOf (s .step)) (progress s) usd f)
+unfoldable pub decideFrame : Session → View → Frame → Decision
+decideFrame s view f =
+    connected Can s (eqb (f .id) CC.connectId) (CC.heard (C.stepOf (s .step)) (progress s) view f)

@@ -3,7 +3,7 @@ use Prim.Native.Nat.{ℕ}
 use mathlib.Core.Path.{_≡_}
 use mathlib.Core.List.{List, _++_}
 use lib.ListN.{length, drop}
-use Rattle.memories.specs.Memories.{memories}
+use Rattle.memories.specs.Memories.{Memories, memories}
 use Rattle.command.specs.declared.Next.{Next}
 use Rattle.boot.specs.Session as S
 use Rattle.boot.specs.Session.{fresh}
@@ -34,8 +34,8 @@ pub record Left : Type 0 where
   pub buffer : List ℕ
 
 -- a result, and what was lent as it is now
-abbrev pub left : Taken → List ℕ → List ℕ → List ℕ → List ℕ → Left
-left r flash sram usd buffer = record { result = r; flash = flash; sram = sram; usd = usd; buffer = buffer }
+abbrev pub left : Taken → Memories → List ℕ → Left
+left r m buffer = record { result = r; flash = m .flash; sram = m .sram; usd = m .usd; buffer = buffer }
 
 -- the state of a session and three lent memories
 abbrev pub stateOf : Session → List ℕ → List ℕ → List ℕ → State
@@ -45,17 +45,17 @@ stateOf s flash sram usd = record {
 }
 
 -- a UART byte is given, and a CAN frame
-abbrev pub givenByte : Session → ℕ → List ℕ → List ℕ → List ℕ → List ℕ → Given
-givenByte s b flash sram usd buffer = record {
+abbrev pub givenByte : Session → ℕ → Memories → List ℕ → Given
+givenByte s b m buffer = record {
   input = Byte (length buffer) b;
-  state = stateOf s flash sram usd;
+  state = record { session = s; memories = m };
   buffer = buffer;
 }
 
-abbrev pub givenFrame : Session → List ℕ → List ℕ → List ℕ → List ℕ → List ℕ → Given
-givenFrame s frame flash sram usd buffer = record {
+abbrev pub givenFrame : Session → List ℕ → Memories → List ℕ → Given
+givenFrame s frame m buffer = record {
   input = Framed (length buffer) frame;
-  state = stateOf s flash sram usd;
+  state = record { session = s; memories = m };
   buffer = buffer;
 }
 

@@ -3,15 +3,14 @@ ghost use mathlib.Core.List.{[], _∷_};
 ghost use Prim.Native.Nat.{_≤_, _<_};
 ghost use lib.Dec.{T};
 ghost use lib.ListN.{length, getD};
-ghost use Rattle.board.specs.Board.{extentOf};
 ghost use Rattle.board.specs.Quantities.{addressBytes};
-ghost use Rattle.board.specs.declared.Region.the-variants.{Usd};
 ghost use Rattle.memories.specs.Effects.{fits};
 ghost use Rattle.command.specs.Says.{sayable};
 ghost use Rattle.frames.specs.Frames.{classic, frameOf};
 ghost use Rattle.boot.specs.Session.{sound, gathered};
 ghost use Rattle.boot.specs.Decide.{unconnected, decideByte, decideFrame};
 use crate::Session;
+use board::View;
 use carriers::Carrier;
 use command::Decision;
 use command::Next;
@@ -36,9 +35,9 @@ impl Session {
     }
 
     // What one UART byte decides, which can be said and carried out, given the session with the byte taken.
-    pub(crate) fn decide_byte(self, byte: u8, taken: Session, usd: &[u8]) -> Decision
-        requires { ⌜ T (sound self) × (taken ≡ gathered (byte ∷ []) self) × (length (now usd) ≡ extentOf Usd .bytes) × (getD (taken .staged) 0 0 < 256) ⌝ }
-        ensures { λ r. ⌜ (r ≡ decideByte self (now (usd .entry)) byte) × T (sayable (r .reply)) × T (fits (r .change) (taken .staged)) ⌝ }
+    pub(crate) fn decide_byte(self, byte: u8, taken: Session, view: View) -> Decision
+        requires { ⌜ T (sound self) × (taken ≡ gathered (byte ∷ []) self) × (getD (taken .staged) 0 0 < 256) ⌝ }
+        ensures { λ r. ⌜ (r ≡ decideByte self view byte) × T (sayable (r .reply)) × T (fits (r .change) (taken .staged)) ⌝ }
     {
         let here = self.on(Carrier::Uart);
         if here {
@@ -48,7 +47,7 @@ impl Session {
                 self.expected,
                 self.address,
                 &taken.staged,
-                usd,
+                view,
             )
         } else {
             self.unconnected(byte == CONNECT_BYTE)
@@ -61,10 +60,10 @@ impl Session {
         id: u16,
         carried: &[u8],
         taken: Session,
-        usd: &[u8],
+        view: View,
     ) -> Decision
-        requires { ⌜ T (sound self) × (taken ≡ gathered (now carried) self) × (length (now usd) ≡ extentOf Usd .bytes) × (length (now carried) ≤ classic .largest) × (getD (now carried) addressBytes 0 < 256) ⌝ }
-        ensures { λ r. ⌜ (r ≡ decideFrame self (now (usd .entry)) (frameOf id (now (carried .entry)))) × T (sayable (r .reply)) × T (fits (r .change) (taken .staged)) ⌝ }
+        requires { ⌜ T (sound self) × (taken ≡ gathered (now carried) self) × (length (now carried) ≤ classic .largest) × (getD (now carried) addressBytes 0 < 256) ⌝ }
+        ensures { λ r. ⌜ (r ≡ decideFrame self view (frameOf id (now (carried .entry)))) × T (sayable (r .reply)) × T (fits (r .change) (taken .staged)) ⌝ }
     {
         let here = self.on(Carrier::Can);
         if here {
@@ -74,7 +73,7 @@ impl Session {
                 self.expected,
                 self.address,
                 &taken.staged,
-                usd,
+                view,
                 id,
                 carried,
             )

@@ -2,7 +2,8 @@ ghost use mathlib.Core.Path.{_≡_};
 ghost use mathlib.Core.Bool.{true};
 ghost use lib.Dec.{leb};
 ghost use lib.ListN.{length};
-ghost use Rattle.memories.specs.Memories.{memories, lengthsRight};
+ghost use Rattle.memories.specs.Lent.{were, are};
+ghost use Rattle.memories.specs.Memories.{lengthsRight};
 ghost use Rattle.uart.specs.Conversation as UC;
 ghost use Rattle.can.specs.Conversation as CC;
 ghost use Rattle.frames.specs.Frames.{classic, isFrame};
@@ -13,6 +14,7 @@ ghost use Rattle.boot.specs.Promise.{left, givenByte, givenFrame, accept
 use crate::Cause;
 use crate::Session;
 use crate::Taken;
+use board::View;
 use carriers::Carrier;
 use command::Decision;
 use constants::Board;
@@ -127,7 +129,7 @@ impl Session {
         usd: &mut [u8],
         buffer: &mut [u8],
     ) -> Taken
-        ensures { λ r. ⌜ Took (givenByte self byte (now (flash .entry)) (now (sram .entry)) (now (usd .entry)) (now (buffer .entry))) (left r (now (flash .exit)) (now (sram .exit)) (now (usd .exit)) (now (buffer .exit))) ⌝ }
+        ensures { λ r. ⌜ Took (givenByte self byte (were flash sram usd) (now (buffer .entry))) (left r (are flash sram usd) (now (buffer .exit))) ⌝ }
     {
         let cause = self.byte_cause(flash.len(), sram.len(), usd.len(), buffer.len());
         let clear = cause.accepts();
@@ -135,7 +137,7 @@ impl Session {
             return self.refused(cause);
         }
         let taken = self.gather_byte(byte);
-        let decision = self.decide_byte(byte, taken, usd);
+        let decision = self.decide_byte(byte, taken, View::of(usd));
         let reply = decision.reply;
         let change = decision.change;
         let length = reply::in_bytes::say(reply, flash, sram, usd, buffer);
@@ -152,7 +154,7 @@ impl Session {
         usd: &mut [u8],
         buffer: &mut [u8],
     ) -> Taken
-        ensures { λ r. ⌜ Took (givenFrame self (now (frame .entry)) (now (flash .entry)) (now (sram .entry)) (now (usd .entry)) (now (buffer .entry))) (left r (now (flash .exit)) (now (sram .exit)) (now (usd .exit)) (now (buffer .exit))) ⌝ }
+        ensures { λ r. ⌜ Took (givenFrame self (now (frame .entry)) (were flash sram usd) (now (buffer .entry))) (left r (are flash sram usd) (now (buffer .exit))) ⌝ }
     {
         let cause = self.frame_cause(frame, flash.len(), sram.len(), usd.len(), buffer.len());
         let clear = cause.accepts();
@@ -162,7 +164,7 @@ impl Session {
         let id = frames::id(frame);
         let carried = frames::carried(frame);
         let taken = self.gather(carried);
-        let decision = self.decide_frame(id, carried, taken, usd);
+        let decision = self.decide_frame(id, carried, taken, View::of(usd));
         let reply = decision.reply;
         let change = decision.change;
         let length = reply::in_frames::say(reply, self.bears(id), flash, sram, usd, buffer);

@@ -6,9 +6,9 @@ use Prim.Native.String.{String}
 use lib.ListN.{replicate}
 use Rattle.words.specs.Hex.{hex}
 use Rattle.board.specs.Regions.{placeOf}
-use Rattle.board.specs.Usd.{writeProtected}
+use Rattle.board.specs.View.{viewOf, writeProtected}
 use Rattle.board.specs.declared.Region.the-variants.{Flash}
-use Rattle.memories.specs.Memories.{freshUsd}
+use Rattle.board.specs.declared.View.{View}
 use Rattle.memories.specs.declared.Change.the-variants.{Write, EraseAll, EraseSectors, ProtectOnly}
 use Rattle.command.specs.Decision.{if_gives_else_, answer, alter, nack, judged}
 use Rattle.command.specs.declared.Decision.{Decision}
@@ -16,7 +16,7 @@ use Rattle.command.specs.declared.Next.the-variants.{Reset, Gather, GoIdle, Set
 use Rattle.command.specs.declared.Reply.the-variants.{Silence, Ack, AckAck, AckNack, Data, Crc}
 use Rattle.command.specs.declared.Why.the-variants.{BadComplement, UnknownCommand, AccessProtected, OtherFrame, BadRange, BadSector, UnsupportedErase, BadSpeed}
 use Rattle.rules.specs.Rules as Q
-use Rattle.rules.proofs.Rulings.{Ruling, _is_, decisions, papers, lockedUsd}
+use Rattle.rules.proofs.Rulings.{Ruling, _is_, decisions, papers, fresh, locked}
 use Rattle.can.specs.Conversation as C
 use Rattle.frames.specs.Frames.{classic, frameIn, framed}
 use Rattle.can.specs.Steps.{stepNo}
@@ -33,29 +33,29 @@ pub cut-in-frames : framed classic 0x11 (hex "01 02 03 04 05 06 07 08 09 0A" ∷
 cut-in-frames = refl
 
 -- a frame comes to an idle session; and to one that gathers, with what it has taken, expects and keeps
-abbrev command : String → List ℕ → Decision
-command t usd = C.heard Idle (record { taken = 0; expected = 1; address = 0; staged = replicate 257 0 }) usd (frameIn (hex t))
+abbrev command : String → View → Decision
+command t view = C.heard Idle (record { taken = 0; expected = 1; address = 0; staged = replicate 257 0 }) view (frameIn (hex t))
 
 abbrev gathers : Step → ℕ → ℕ → ℕ → String → Decision
 gathers s taken expected a t =
-    C.heard s (record { taken = taken; expected = expected; address = a; staged = replicate 257 0 }) freshUsd (frameIn (hex t))
+    C.heard s (record { taken = taken; expected = expected; address = a; staged = replicate 257 0 }) fresh (frameIn (hex t))
 
 abbrev rulings : List Ruling
 rulings =
-    (command "00 11 05 08 00 00 00 03 00 00 00" freshUsd is answer (Data Flash 0 4) GoIdle)
-    ∷ (command "00 11 04 08 00 00 00 03 00 00 00" freshUsd is nack BadComplement)
-    ∷ (command "00 11 05 08 00 00 00 03 00 00 00" lockedUsd is nack AccessProtected)
-    ∷ (command "07 FF 00 00 00 00 00 00 00 00 00" freshUsd is nack UnknownCommand)
-    ∷ (command "00 31 05 08 00 00 00 02 00 00 00" freshUsd is answer Ack (EnterAt (stepNo WriteData) 3 0x08000000))
-    ∷ (command "00 31 05 08 00 7F FF 01 00 00 00" freshUsd is nack BadRange)
-    ∷ (command "00 44 02 00 1F 00 00 00 00 00 00" freshUsd is answer Ack (Enter (stepNo EraseList) 64))
-    ∷ (command "00 44 02 00 20 00 00 00 00 00 00" freshUsd is nack BadRange)
-    ∷ (command "00 44 02 FF FF 00 00 00 00 00 00" freshUsd is alter AckAck EraseAll GoIdle)
-    ∷ (command "00 44 02 FF FB 00 00 00 00 00 00" freshUsd is answer (AckNack UnsupportedErase) GoIdle)
-    ∷ (command "00 63 01 01 00 00 00 00 00 00 00" freshUsd is answer Ack (Enter (stepNo ProtectList) 2))
-    ∷ (command "00 AC 06 08 00 7C 00 00 00 00 00" freshUsd is answer (Crc 31744 1024) GoIdle)
-    ∷ (command "00 03 02 03 FF 00 00 00 00 00 00" freshUsd is answer AckAck (SetSpeed 3))
-    ∷ (command "00 03 02 04 00 00 00 00 00 00 00" freshUsd is nack BadSpeed)
+    (command "00 11 05 08 00 00 00 03 00 00 00" fresh is answer (Data Flash 0 4) GoIdle)
+    ∷ (command "00 11 04 08 00 00 00 03 00 00 00" fresh is nack BadComplement)
+    ∷ (command "00 11 05 08 00 00 00 03 00 00 00" locked is nack AccessProtected)
+    ∷ (command "07 FF 00 00 00 00 00 00 00 00 00" fresh is nack UnknownCommand)
+    ∷ (command "00 31 05 08 00 00 00 02 00 00 00" fresh is answer Ack (EnterAt (stepNo WriteData) 3 0x08000000))
+    ∷ (command "00 31 05 08 00 7F FF 01 00 00 00" fresh is nack BadRange)
+    ∷ (command "00 44 02 00 1F 00 00 00 00 00 00" fresh is answer Ack (Enter (stepNo EraseList) 64))
+    ∷ (command "00 44 02 00 20 00 00 00 00 00 00" fresh is nack BadRange)
+    ∷ (command "00 44 02 FF FF 00 00 00 00 00 00" fresh is alter AckAck EraseAll GoIdle)
+    ∷ (command "00 44 02 FF FB 00 00 00 00 00 00" fresh is answer (AckNack UnsupportedErase) GoIdle)
+    ∷ (command "00 63 01 01 00 00 00 00 00 00 00" fresh is answer Ack (Enter (stepNo ProtectList) 2))
+    ∷ (command "00 AC 06 08 00 7C 00 00 00 00 00" fresh is answer (Crc 31744 1024) GoIdle)
+    ∷ (command "00 03 02 03 FF 00 00 00 00 00 00" fresh is answer AckAck (SetSpeed 3))
+    ∷ (command "00 03 02 04 00 00 00 00 00 00 00" fresh is nack BadSpeed)
     ∷ (gathers WriteData 0 3 0x08000000 "00 31 08 01 02 03 04 05 06 07 08" is alter Ack (Write Flash 0 3) GoIdle)
     ∷ (gathers WriteData 0 9 0x08000000 "00 31 08 01 02 03 04 05 06 07 08" is answer Silence Gather)
     ∷ (gathers WriteData 0 3 0x08000000 "00 11 08 01 02 03 04 05 06 07 08" is nack OtherFrame)
@@ -68,5 +68,5 @@ rulings =
     ∷ []
 
 pub ruled : decisions rulings ≡ papers rulings
-unfolding placeOf writeProtected if_gives_else_ judged Q.unlessProtected Q.readAt Q.reading Q.writeVerdictAt Q.writeVerdict Q.writeAt Q.writing Q.selectorOf Q.eraseVerdict Q.erasing Q.eraseAllVerdict Q.protectVerdict Q.protecting Q.jumping Q.sumAt Q.summing C.erasedOrNot C.selected C.obeyed C.commanded C.gathering C.unlessExtra C.decided C.heard
+unfolding placeOf viewOf writeProtected if_gives_else_ judged Q.unlessProtected Q.readAt Q.reading Q.writeVerdictAt Q.writeVerdict Q.writeAt Q.writing Q.selectorOf Q.eraseVerdict Q.erasing Q.eraseAllVerdict Q.protectVerdict Q.protecting Q.jumping Q.sumAt Q.summing C.erasedOrNot C.selected C.obeyed C.commanded C.gathering C.unlessExtra C.decided C.heard
 ruled = refl

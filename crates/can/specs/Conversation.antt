@@ -8,6 +8,7 @@ use Rattle.words.specs.Bytes.{number}
 use Rattle.board.specs.Board.{address, identity}
 use Rattle.board.specs.Quantities.{countOf, lessOne, oneLess, addressBytes, selectorBytes, longCountBytes}
 use Rattle.constants.specs.declared.Address.{Address}
+use Rattle.board.specs.declared.View.{View}
 use Rattle.memories.specs.declared.Change.the-variants.{EraseAll}
 use Rattle.command.specs.Commands.{code, canCommands, lookUp}
 use Rattle.command.specs.Decision.{if_gives_else_, answer, alter, nack, judged}
@@ -82,36 +83,36 @@ erasedOrNot Fine = alter AckAck EraseAll GoIdle
 erasedOrNot (No w) = answer (AckNack w) GoIdle
 
 -- a list is announced, or a special erase is done
-unfoldable pub selected : List ℕ → Selector → Decision
-selected usd (Listed n) = answer Ack (Enter (stepNo EraseList) (expectedForNumbers (countOf n)))
-selected usd (Special n) = erasedOrNot (eraseAllVerdict usd n)
-selected usd Impossible = nack BadRange
+unfoldable pub selected : View → Selector → Decision
+selected view (Listed n) = answer Ack (Enter (stepNo EraseList) (expectedForNumbers (countOf n)))
+selected view (Special n) = erasedOrNot (eraseAllVerdict view n)
+selected view Impossible = nack BadRange
 
 -- a command frame's data, and what the command asks for
-unfoldable pub obeyed : List ℕ → List ℕ → Command → Decision
-obeyed usd d GetCommands = telling Commands
-obeyed usd d GetVersion = telling Version
-obeyed usd d GetDeviceId = telling DeviceId
-obeyed usd d ReadMemory = reading (addressIn d) (countSent (drop addressBytes d))
-obeyed usd d Jump = jumping (addressIn d)
-obeyed usd d WriteMemory =
-    judged (writeVerdict usd (addressIn d) (countSent (drop addressBytes d)))
+unfoldable pub obeyed : View → List ℕ → Command → Decision
+obeyed view d GetCommands = telling Commands
+obeyed view d GetVersion = telling Version
+obeyed view d GetDeviceId = telling DeviceId
+obeyed view d ReadMemory = reading (addressIn d) (countSent (drop addressBytes d))
+obeyed view d Jump = jumping (addressIn d)
+obeyed view d WriteMemory =
+    judged (writeVerdict view (addressIn d) (countSent (drop addressBytes d)))
     (answer Ack (EnterAt (stepNo WriteData) (countSent (drop addressBytes d)) (addressIn d .0)))
-obeyed usd d Erase = selected usd (selectorOf (number d))
-obeyed usd d ProgramProtect = answer Ack (Enter (stepNo ProtectList) (countSent d))
-obeyed usd d ProgramUnprotect = releasing
-obeyed usd d AccessProtect = locking
-obeyed usd d AccessUnprotect = unlocking
-obeyed usd d FirmwareCrc = summing (addressIn d) (countSent (drop addressBytes d))
-obeyed usd d ResetDevice = resetting
-obeyed usd d Speed =
+obeyed view d Erase = selected view (selectorOf (number d))
+obeyed view d ProgramProtect = answer Ack (Enter (stepNo ProtectList) (countSent d))
+obeyed view d ProgramUnprotect = releasing
+obeyed view d AccessProtect = locking
+obeyed view d AccessUnprotect = unlocking
+obeyed view d FirmwareCrc = summing (addressIn d) (countSent (drop addressBytes d))
+obeyed view d ResetDevice = resetting
+obeyed view d Speed =
     if leb (getD d 0 0) largestSpeed gives answer AckAck (SetSpeed (getD d 0 0)) else nack BadSpeed
 
 -- the ID is the command; a wrong DLC, no command, or a protected one: NACK
-unfoldable pub commanded : List ℕ → List ℕ → Lookup → Decision
-commanded usd d (Known c) =
-    if dlcFits c (length d) gives unlessProtected usd c (obeyed usd d c) else nack BadComplement
-commanded usd d Unknown = nack UnknownCommand
+unfoldable pub commanded : View → List ℕ → Lookup → Decision
+commanded view d (Known c) =
+    if dlcFits c (length d) gives unlessProtected view c (obeyed view d c) else nack BadComplement
+commanded view d Unknown = nack UnknownCommand
 
 -- frames of the running ID are gathered until all bytes are there; another ID, or DLC 0, ends the command
 unfoldable pub gathering : Command → Progress → Frame → Decision → Decision
@@ -125,16 +126,16 @@ unfoldable pub unlessExtra : Progress → Frame → Decision → Decision
 unlessExtra p f d = if overfull p (f .bytes) gives nack BadRange else d
 
 -- one frame of a connected host, given the progress with its bytes staged, and only those of its bytes that count
-unfoldable pub decided : Step → Progress → List ℕ → Frame → Decision
-decided Idle p usd f = commanded usd (f .bytes) (lookUp canCommands (f .id))
-decided WriteData p usd f = gathering WriteMemory p f (writing usd (address (p .address)) (p .expected))
-decided EraseList p usd f = gathering Erase p f (unlessExtra p f (erasing usd (p .staged) (numbersIn (p .expected))))
-decided ProtectList p usd f = gathering ProgramProtect p f (unlessExtra p f (protecting (p .staged) (p .expected)))
+unfoldable pub decided : Step → Progress → View → Frame → Decision
+decided Idle p view f = commanded view (f .bytes) (lookUp canCommands (f .id))
+decided WriteData p view f = gathering WriteMemory p f (writing view (address (p .address)) (p .expected))
+decided EraseList p view f = gathering Erase p f (unlessExtra p f (erasing view (p .staged) (numbersIn (p .expected))))
+decided ProtectList p view f = gathering ProgramProtect p f (unlessExtra p f (protecting (p .staged) (p .expected)))
 
 -- one frame of a connected host
-unfoldable pub heard : Step → Progress → List ℕ → Frame → Decision
-heard s p usd f =
-    decided s (progressAt (p .taken) (p .expected) (p .address) (stagedWith p (carried f))) usd (counted f)
+unfoldable pub heard : Step → Progress → View → Frame → Decision
+heard s p view f =
+    decided s (progressAt (p .taken) (p .expected) (p .address) (stagedWith p (carried f))) view (counted f)
 
 -- the ID that replies bear: the frame's own, or while gathering the running one
 abbrev pub bears : Step → ℕ → ℕ

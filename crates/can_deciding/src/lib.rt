@@ -5,14 +5,15 @@ ghost use mathlib.Core.List.{[]};
 ghost use Prim.Native.Nat.{_≤_, _<_};
 ghost use lib.Dec.{T};
 ghost use lib.ListN.{length};
-ghost use Rattle.board.specs.Board.{extentOf, sectors};
+ghost use Rattle.board.specs.Board.{sectors};
 ghost use Rattle.board.specs.Quantities.{largestCount};
-ghost use Rattle.board.specs.declared.Region.the-variants.{Usd};
+ghost use Rattle.board.specs.View.{viewOf};
 ghost use Rattle.memories.specs.Effects.{stagedBytes};
 ghost use Rattle.command.specs.Progress.{progressAt};
 ghost use Rattle.frames.specs.Frames.{classic, frameOf};
 ghost use Rattle.can.specs.Steps.{stepOf, expects, expectedForNumbers};
 ghost use Rattle.can.specs.Conversation.{decided};
+use board::View;
 use can::Step;
 use command::Decision;
 use command::code;
@@ -23,12 +24,12 @@ fn write_frame(
     taken: usize,
     expected: usize,
     address: u32,
-    usd: &[u8],
+    view: View,
     id: u16,
     carried: &[u8],
 ) -> Decision
-    requires { ⌜ (taken < expected) × (expected ≤ largestCount) × (length (now usd) ≡ extentOf Usd .bytes) × (length (now carried) ≤ classic .largest) ⌝ }
-    ensures { λ r. ⌜ r ≡ decided Step.WriteData (progressAt taken expected address []) (now (usd .entry)) (frameOf id (now (carried .entry))) ⌝ }
+    requires { ⌜ (taken < expected) × (expected ≤ largestCount) × (length (now carried) ≤ classic .largest) ⌝ }
+    ensures { λ r. ⌜ r ≡ decided Step.WriteData (progressAt taken expected address []) view (frameOf id (now (carried .entry))) ⌝ }
 {
     can::gathering(
         code::WRITE_MEMORY,
@@ -36,7 +37,7 @@ fn write_frame(
         expected,
         id,
         carried.len(),
-        deciding::write::write(usd, Address(address), expected),
+        deciding::write::write(view, Address(address), expected),
     )
 }
 
@@ -45,14 +46,14 @@ fn erase_frame(
     taken: usize,
     expected: usize,
     bytes: &[u8],
-    usd: &[u8],
+    view: View,
     id: u16,
     carried: &[u8],
 ) -> Decision
-    requires { ⌜ (taken < expected) × (expected ≤ expectedForNumbers (sectors .count)) × (length (now bytes) ≡ stagedBytes) × (length (now usd) ≡ extentOf Usd .bytes) × (length (now carried) ≤ classic .largest) ⌝ }
-    ensures { λ r. ⌜ r ≡ decided Step.EraseList (progressAt taken expected 0 (now (bytes .entry))) (now (usd .entry)) (frameOf id (now (carried .entry))) ⌝ }
+    requires { ⌜ (taken < expected) × (expected ≤ expectedForNumbers (sectors .count)) × (length (now bytes) ≡ stagedBytes) × (length (now carried) ≤ classic .largest) ⌝ }
+    ensures { λ r. ⌜ r ≡ decided Step.EraseList (progressAt taken expected 0 (now (bytes .entry))) view (frameOf id (now (carried .entry))) ⌝ }
 {
-    let done = list_deciding::erase::erase(usd, bytes, expected / 2);
+    let done = list_deciding::erase::erase(view, bytes, expected / 2);
     can::gathering(
         code::ERASE,
         taken,
@@ -66,7 +67,7 @@ fn erase_frame(
 // A frame that comes while the indexes of 0x63 are gathered.
 fn protect_frame(taken: usize, expected: usize, bytes: &[u8], id: u16, carried: &[u8]) -> Decision
     requires { ⌜ (taken < expected) × (expected ≤ largestCount) × (length (now bytes) ≡ stagedBytes) × (length (now carried) ≤ classic .largest) ⌝ }
-    ensures { λ r. ⌜ r ≡ decided Step.ProtectList (progressAt taken expected 0 (now (bytes .entry))) [] (frameOf id (now (carried .entry))) ⌝ }
+    ensures { λ r. ⌜ r ≡ decided Step.ProtectList (progressAt taken expected 0 (now (bytes .entry))) (viewOf []) (frameOf id (now (carried .entry))) ⌝ }
 {
     let done = list_deciding::protect::protect(bytes, expected);
     can::gathering(
@@ -86,18 +87,18 @@ pub fn heard(
     expected: usize,
     address: u32,
     bytes: &[u8],
-    usd: &[u8],
+    view: View,
     id: u16,
     carried: &[u8],
 ) -> Decision
-    requires { ⌜ (taken < expected) × T (expects (stepOf step) expected) × (length (now bytes) ≡ stagedBytes) × (length (now usd) ≡ extentOf Usd .bytes) × (length (now carried) ≤ classic .largest) ⌝ }
-    ensures { λ r. ⌜ r ≡ decided (stepOf step) (progressAt taken expected address (now (bytes .entry))) (now (usd .entry)) (frameOf id (now (carried .entry))) ⌝ }
+    requires { ⌜ (taken < expected) × T (expects (stepOf step) expected) × (length (now bytes) ≡ stagedBytes) × (length (now carried) ≤ classic .largest) ⌝ }
+    ensures { λ r. ⌜ r ≡ decided (stepOf step) (progressAt taken expected address (now (bytes .entry))) view (frameOf id (now (carried .entry))) ⌝ }
 {
     let here = Step::of(step);
     match here {
-        Step::Idle => obey::command_frame(usd, id, carried),
-        Step::WriteData => write_frame(taken, expected, address, usd, id, carried),
-        Step::EraseList => erase_frame(taken, expected, bytes, usd, id, carried),
+        Step::Idle => obey::command_frame(view, id, carried),
+        Step::WriteData => write_frame(taken, expected, address, view, id, carried),
+        Step::EraseList => erase_frame(taken, expected, bytes, view, id, carried),
         Step::ProtectList => protect_frame(taken, expected, bytes, id, carried),
     }
 }

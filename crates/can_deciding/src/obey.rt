@@ -2,11 +2,11 @@ ghost use mathlib.Core.Path.{_≡_};
 ghost use mathlib.Core.List.{[]};
 ghost use lib.Dec.{T};
 ghost use lib.ListN.{length};
-ghost use Rattle.board.specs.Board.{extentOf};
-ghost use Rattle.board.specs.declared.Region.the-variants.{Usd};
+ghost use Rattle.board.specs.View.{viewOf};
 ghost use Rattle.command.specs.Commands.{canCommands, lookUp};
 ghost use Rattle.command.specs.declared.Command.the-variants.{ReadMemory, WriteMemory, Erase, ProgramProtect, FirmwareCrc, Speed};
 ghost use Rattle.can.specs.Conversation.{dlcFits, dlcRight, erasedOrNot, selected, obeyed, commanded};
+use board::View;
 use can::LARGEST_SPEED;
 use can::Step;
 use command::Command;
@@ -63,7 +63,7 @@ fn dlc_right(number: u8, dlc: usize) -> bool
 // 0x11: the bytes are sent, or refused.
 fn read_memory(carried: &[u8]) -> Decision
     requires { ⌜ T (dlcFits ReadMemory (length (now carried))) ⌝ }
-    ensures { λ r. ⌜ r ≡ obeyed [] (now (carried .entry)) ReadMemory ⌝ }
+    ensures { λ r. ⌜ r ≡ obeyed (viewOf []) (now (carried .entry)) ReadMemory ⌝ }
 {
     deciding::read::read(
         sent::address_in(carried),
@@ -72,14 +72,14 @@ fn read_memory(carried: &[u8]) -> Decision
 }
 
 // 0x31: ACK, and the data are gathered, unless the write can only be refused.
-fn write_memory(usd: &[u8], carried: &[u8]) -> Decision
-    requires { ⌜ (length (now usd) ≡ extentOf Usd .bytes) × T (dlcFits WriteMemory (length (now carried))) ⌝ }
-    ensures { λ r. ⌜ r ≡ obeyed (now (usd .entry)) (now (carried .entry)) WriteMemory ⌝ }
+fn write_memory(view: View, carried: &[u8]) -> Decision
+    requires { ⌜ T (dlcFits WriteMemory (length (now carried))) ⌝ }
+    ensures { λ r. ⌜ r ≡ obeyed view (now (carried .entry)) WriteMemory ⌝ }
 {
     let address = sent::address_in(carried);
     let x = sent::count_of(carried[sent::ADDRESS_BYTES]);
     command::judged(
-        deciding::write::write_verdict(usd, address, x),
+        deciding::write::write_verdict(view, address, x),
         command::answer(
             Reply::Ack,
             Next::EnterAt(Step::WriteData.number(), x, address.0),
@@ -98,9 +98,8 @@ fn erased_or_not(verdict: Verdict) -> Decision
 }
 
 // What the selector of an erase leads to.
-fn selected(usd: &[u8], selector: Selector) -> Decision
-    requires { ⌜ length (now usd) ≡ extentOf Usd .bytes ⌝ }
-    ensures { λ r. ⌜ r ≡ selected (now (usd .entry)) selector ⌝ }
+fn selected(view: View, selector: Selector) -> Decision
+    ensures { λ r. ⌜ r ≡ selected view selector ⌝ }
 {
     match selector {
         Selector::Listed(sent) => command::answer(
@@ -108,19 +107,19 @@ fn selected(usd: &[u8], selector: Selector) -> Decision
             Next::Enter(Step::EraseList.number(), 2 * sent.count()),
         ),
         Selector::Special(number) => {
-            erased_or_not(list_deciding::erase::erase_all_verdict(usd, number as u32))
+            erased_or_not(list_deciding::erase::erase_all_verdict(view, number as u32))
         }
         Selector::Impossible => command::nack(Why::BadRange),
     }
 }
 
 // 0x44: the two selector bytes decide.
-fn erase(usd: &[u8], carried: &[u8]) -> Decision
-    requires { ⌜ (length (now usd) ≡ extentOf Usd .bytes) × T (dlcFits Erase (length (now carried))) ⌝ }
-    ensures { λ r. ⌜ r ≡ obeyed (now (usd .entry)) (now (carried .entry)) Erase ⌝ }
+fn erase(view: View, carried: &[u8]) -> Decision
+    requires { ⌜ T (dlcFits Erase (length (now carried))) ⌝ }
+    ensures { λ r. ⌜ r ≡ obeyed view (now (carried .entry)) Erase ⌝ }
 {
     selected(
-        usd,
+        view,
         list_deciding::erase::selector_of(words::number2(carried[0], carried[1])),
     )
 }
@@ -128,7 +127,7 @@ fn erase(usd: &[u8], carried: &[u8]) -> Decision
 // 0x63: ACK, and the indexes are gathered.
 fn program_protect(carried: &[u8]) -> Decision
     requires { ⌜ T (dlcFits ProgramProtect (length (now carried))) ⌝ }
-    ensures { λ r. ⌜ r ≡ obeyed [] (now (carried .entry)) ProgramProtect ⌝ }
+    ensures { λ r. ⌜ r ≡ obeyed (viewOf []) (now (carried .entry)) ProgramProtect ⌝ }
 {
     command::answer(
         Reply::Ack,
@@ -139,7 +138,7 @@ fn program_protect(carried: &[u8]) -> Decision
 // 0xAC: the checksum is sent, or refused.
 fn firmware_crc(carried: &[u8]) -> Decision
     requires { ⌜ T (dlcFits FirmwareCrc (length (now carried))) ⌝ }
-    ensures { λ r. ⌜ r ≡ obeyed [] (now (carried .entry)) FirmwareCrc ⌝ }
+    ensures { λ r. ⌜ r ≡ obeyed (viewOf []) (now (carried .entry)) FirmwareCrc ⌝ }
 {
     deciding::sum::sum(
         sent::address_in(carried),
@@ -153,7 +152,7 @@ fn firmware_crc(carried: &[u8]) -> Decision
 // 0x03: a speed from 0 to 3 is set, and the second byte is free.
 fn set_speed(carried: &[u8]) -> Decision
     requires { ⌜ T (dlcFits Speed (length (now carried))) ⌝ }
-    ensures { λ r. ⌜ r ≡ obeyed [] (now (carried .entry)) Speed ⌝ }
+    ensures { λ r. ⌜ r ≡ obeyed (viewOf []) (now (carried .entry)) Speed ⌝ }
 {
     let speed = carried[0];
     command::accept_if(
@@ -164,9 +163,9 @@ fn set_speed(carried: &[u8]) -> Decision
 }
 
 // A command frame's data, and what the command asks for.
-fn obeyed(usd: &[u8], carried: &[u8], command: Command) -> Decision
-    requires { ⌜ (length (now usd) ≡ extentOf Usd .bytes) × T (dlcFits command (length (now carried))) ⌝ }
-    ensures { λ r. ⌜ r ≡ obeyed (now (usd .entry)) (now (carried .entry)) command ⌝ }
+fn obeyed(view: View, carried: &[u8], command: Command) -> Decision
+    requires { ⌜ T (dlcFits command (length (now carried))) ⌝ }
+    ensures { λ r. ⌜ r ≡ obeyed view (now (carried .entry)) command ⌝ }
 {
     match command {
         Command::GetCommands => at_once::tell(Reply::Commands),
@@ -174,8 +173,8 @@ fn obeyed(usd: &[u8], carried: &[u8], command: Command) -> Decision
         Command::GetDeviceId => at_once::tell(Reply::DeviceId),
         Command::ReadMemory => read_memory(carried),
         Command::Jump => deciding::jump::jump(sent::address_in(carried)),
-        Command::WriteMemory => write_memory(usd, carried),
-        Command::Erase => erase(usd, carried),
+        Command::WriteMemory => write_memory(view, carried),
+        Command::Erase => erase(view, carried),
         Command::ProgramProtect => program_protect(carried),
         Command::ProgramUnprotect => at_once::release(),
         Command::AccessProtect => at_once::lock(),
@@ -187,16 +186,15 @@ fn obeyed(usd: &[u8], carried: &[u8], command: Command) -> Decision
 }
 
 // A command that is known, has its DLC and is not forbidden is obeyed.
-fn commanded(usd: &[u8], number: u8, carried: &[u8]) -> Decision
-    requires { ⌜ length (now usd) ≡ extentOf Usd .bytes ⌝ }
-    ensures { λ r. ⌜ r ≡ commanded (now (usd .entry)) (now (carried .entry)) (lookUp canCommands number) ⌝ }
+fn commanded(view: View, number: u8, carried: &[u8]) -> Decision
+    ensures { λ r. ⌜ r ≡ commanded view (now (carried .entry)) (lookUp canCommands number) ⌝ }
 {
     let lookup = code::look_up(number);
     let right = dlc_right(number, carried.len());
     match lookup {
         Lookup::Known(command) => {
             if right {
-                deciding::protected::unless_protected(usd, command, obeyed(usd, carried, command))
+                deciding::protected::unless_protected(view, command, obeyed(view, carried, command))
             } else {
                 command::nack(Why::BadComplement)
             }
@@ -206,12 +204,11 @@ fn commanded(usd: &[u8], number: u8, carried: &[u8]) -> Decision
 }
 
 // A command frame: an ID that is no byte is no command.
-pub fn command_frame(usd: &[u8], id: u16, carried: &[u8]) -> Decision
-    requires { ⌜ length (now usd) ≡ extentOf Usd .bytes ⌝ }
-    ensures { λ r. ⌜ r ≡ commanded (now (usd .entry)) (now (carried .entry)) (lookUp canCommands id) ⌝ }
+pub fn command_frame(view: View, id: u16, carried: &[u8]) -> Decision
+    ensures { λ r. ⌜ r ≡ commanded view (now (carried .entry)) (lookUp canCommands id) ⌝ }
 {
     if id <= LARGEST_NUMBER {
-        commanded(usd, id as u8, carried)
+        commanded(view, id as u8, carried)
     } else {
         command::nack(Why::UnknownCommand)
     }

@@ -1,4 +1,4 @@
-// What each command decides that names no list of sectors, as the rules say: no memory but user system data is seen.
+// What each command decides that names no list of sectors, as the rules say: of the board only a view is seen.
 pub mod at_once;
 pub mod jump;
 pub mod protected;

@@ -1,16 +1,16 @@
 ghost use mathlib.Core.Path.{_≡_};
 ghost use mathlib.Core.List.{[]};
 ghost use Prim.Native.Nat.{_+_, _≤_, _<_};
-ghost use lib.ListN.{length};
 ghost use Rattle.words.specs.Lists.{any};
 ghost use Rattle.board.specs.Board.{extentOf};
 ghost use Rattle.board.specs.Regions.{touched};
-ghost use Rattle.board.specs.Usd.{writeProtected};
+ghost use Rattle.board.specs.View.{viewOf, writeProtected};
 ghost use Rattle.board.specs.declared.Region.the-variants.{Flash, Usd};
 ghost use Rattle.rules.specs.Rules.{writeVerdictAt, writeVerdict, afterWrite, writeAt, writing};
 use board::Place;
 use board::Region;
 use board::Sector;
+use board::View;
 use command::Decision;
 use command::Next;
 use command::Reply;
@@ -21,21 +21,21 @@ use constants::Board;
 use memories::Change;
 
 // Whether x bytes of flash from an offset on touch a write-protected sector.
-fn touches_protected(usd: &[u8], at: usize, x: usize) -> bool
-    requires { ⌜ (length (now usd) ≡ extentOf Usd .bytes) × (0 < x) × (at + x ≤ extentOf Flash .bytes) ⌝ }
-    ensures { λ r. ⌜ r ≡ any (writeProtected (now (usd .entry))) (touched at x) ⌝ }
+fn touches_protected(view: View, at: usize, x: usize) -> bool
+    requires { ⌜ (0 < x) × (at + x ≤ extentOf Flash .bytes) ⌝ }
+    ensures { λ r. ⌜ r ≡ any (writeProtected view) (touched at x) ⌝ }
 {
     let first = Sector::at(at);
     let last = Sector::at(at + x - 1);
-    board::usd::any_write_protected(usd, first, (last.0 - first.0) as usize + 1)
+    view.any_write_protected(first, (last.0 - first.0) as usize + 1)
 }
 
 // Whether x bytes may be written into flash.
-fn flash_verdict(usd: &[u8], at: usize, x: usize) -> Verdict
-    requires { ⌜ (length (now usd) ≡ extentOf Usd .bytes) × (0 < x) × (at + x ≤ extentOf Flash .bytes) ⌝ }
-    ensures { λ r. ⌜ r ≡ writeVerdictAt (now (usd .entry)) (Place.In Flash at) x ⌝ }
+fn flash_verdict(view: View, at: usize, x: usize) -> Verdict
+    requires { ⌜ (0 < x) × (at + x ≤ extentOf Flash .bytes) ⌝ }
+    ensures { λ r. ⌜ r ≡ writeVerdictAt view (Place.In Flash at) x ⌝ }
 {
-    let forbidden = touches_protected(usd, at, x);
+    let forbidden = touches_protected(view, at, x);
     if forbidden {
         Verdict::No(Why::WriteProtected)
     } else {
@@ -45,7 +45,7 @@ fn flash_verdict(usd: &[u8], at: usize, x: usize) -> Verdict
 
 // Whether x bytes may be written into user system data: only the whole of it.
 fn usd_verdict(at: usize, x: usize) -> Verdict
-    ensures { λ r. ⌜ r ≡ writeVerdictAt [] (Place.In Usd at) x ⌝ }
+    ensures { λ r. ⌜ r ≡ writeVerdictAt (viewOf []) (Place.In Usd at) x ⌝ }
 {
     let whole = (at == 0) & (x == Board::USD_BYTES);
     if whole {
@@ -56,16 +56,16 @@ fn usd_verdict(at: usize, x: usize) -> Verdict
 }
 
 // Whether x bytes may be written from an address on.
-pub fn write_verdict(usd: &[u8], address: Address, x: usize) -> Verdict
-    requires { ⌜ (length (now usd) ≡ extentOf Usd .bytes) × (0 < x) ⌝ }
-    ensures { λ r. ⌜ r ≡ writeVerdict (now (usd .entry)) address x ⌝ }
+pub fn write_verdict(view: View, address: Address, x: usize) -> Verdict
+    requires { ⌜ 0 < x ⌝ }
+    ensures { λ r. ⌜ r ≡ writeVerdict view address x ⌝ }
 {
     let known = board::range::known(address);
     if known {
         let place = board::range::place(address, x);
         match place {
             Place::In(region, at) => match region {
-                Region::Flash => flash_verdict(usd, at, x),
+                Region::Flash => flash_verdict(view, at, x),
                 Region::Sram => Verdict::Fine,
                 Region::Usd => usd_verdict(at, x),
             },
@@ -102,12 +102,12 @@ fn write_at(place: Place, x: usize) -> Decision
 }
 
 // A write of x staged bytes from an address on, or a refusal.
-pub fn write(usd: &[u8], address: Address, x: usize) -> Decision
-    requires { ⌜ (length (now usd) ≡ extentOf Usd .bytes) × (0 < x) ⌝ }
-    ensures { λ r. ⌜ r ≡ writing (now (usd .entry)) address x ⌝ }
+pub fn write(view: View, address: Address, x: usize) -> Decision
+    requires { ⌜ 0 < x ⌝ }
+    ensures { λ r. ⌜ r ≡ writing view address x ⌝ }
 {
     command::judged(
-        write_verdict(usd, address, x),
+        write_verdict(view, address, x),
         write_at(board::range::place(address, x), x),
     )
 }

@@ -8,7 +8,8 @@ ghost use Rattle.words.specs.Over.{put};
 ghost use Rattle.board.specs.Board.{extentOf, sectors};
 ghost use Rattle.board.specs.Quantities.{largestCount, startOf, isSector, firstIndexed, firstNumbered};
 ghost use Rattle.board.specs.declared.Region.the-variants.{Flash, Usd};
-ghost use Rattle.memories.specs.Memories.{memories, proper};
+ghost use Rattle.memories.specs.Lent.{held, were, are};
+ghost use Rattle.memories.specs.Memories.{proper};
 ghost use Rattle.memories.specs.Protection.{released, alsoProtected, onlyProtected, locked};
 ghost use Rattle.memories.specs.Effects.{blank, erased, written, effect, fits};
 use board::Region;
@@ -37,8 +38,8 @@ fn write(
     staged: &[u8; STAGED],
     x: usize,
 )
-    requires { ⌜ T (proper (memories (now flash) (now sram) (now usd))) × (x ≤ largestCount) × (at + x ≤ extentOf region .bytes) ⌝ }
-    ensures { λ _. ⌜ memories (now (flash .exit)) (now (sram .exit)) (now (usd .exit)) ≡ written region at (take x (now (staged .entry))) (memories (now (flash .entry)) (now (sram .entry)) (now (usd .entry))) ⌝ }
+    requires { ⌜ T (proper (held flash sram usd)) × (x ≤ largestCount) × (at + x ≤ extentOf region .bytes) ⌝ }
+    ensures { λ _. ⌜ are flash sram usd ≡ written region at (take x (now (staged .entry))) (were flash sram usd) ⌝ }
 {
     match region {
         Region::Flash => words::join_by_and(flash, at, staged, x),
@@ -111,8 +112,8 @@ fn protect_only(usd: &mut [u8], staged: &[u8], x: usize)
 
 // Wipes flash and SRAM and turns protection off, if it is on.
 fn unlock(flash: &mut [u8], sram: &mut [u8], usd: &mut [u8])
-    requires { ⌜ T (proper (memories (now flash) (now sram) (now usd))) ⌝ }
-    ensures { λ _. ⌜ memories (now (flash .exit)) (now (sram .exit)) (now (usd .exit)) ≡ effect Change.Unlock [] (memories (now (flash .entry)) (now (sram .entry)) (now (usd .entry))) ⌝ }
+    requires { ⌜ T (proper (held flash sram usd)) ⌝ }
+    ensures { λ _. ⌜ are flash sram usd ≡ effect Change.Unlock [] (were flash sram usd) ⌝ }
 {
     let on = board::usd::protection_on(usd);
     if on {
@@ -138,8 +139,8 @@ pub fn carry_out(
     sram: &mut [u8],
     usd: &mut [u8],
 )
-    requires { ⌜ T (proper (memories (now flash) (now sram) (now usd))) × T (fits change (now staged)) ⌝ }
-    ensures { λ _. ⌜ memories (now (flash .exit)) (now (sram .exit)) (now (usd .exit)) ≡ effect change (now (staged .entry)) (memories (now (flash .entry)) (now (sram .entry)) (now (usd .entry))) ⌝ }
+    requires { ⌜ T (proper (held flash sram usd)) × T (fits change (now staged)) ⌝ }
+    ensures { λ _. ⌜ are flash sram usd ≡ effect change (now (staged .entry)) (were flash sram usd) ⌝ }
 {
     match change {
         Change::Nothing => {}

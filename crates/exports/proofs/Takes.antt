@@ -6,13 +6,13 @@ use Prim.Native.Nat.{ℕ}
 use lib.Dec.{T, eqb, leb, eqb→eq}
 use lib.ListN.{length}
 use Rattle.words.specs.Choice.{if_then_else_}
-use Rattle.memories.specs.Memories.{proper}
+use Rattle.memories.specs.Memories.{Memories, proper}
 use Rattle.uart.specs.Conversation as UC
 use Rattle.can.specs.Conversation as CC
 use Rattle.frames.specs.Frames.{classic, isFrame}
 use Rattle.boot.specs.Session.{sound}
 use Rattle.boot.specs.Causes.{causeNo, accepts}
-use Rattle.boot.specs.Calls.{Input, Power, Byte, Framed, State, causeFor, decide, perform, refused, call}
+use Rattle.boot.specs.Calls.{Input, Power, Byte, Framed, State, viewIn, causeFor, decide, perform, refused, call}
 use Rattle.boot.specs.Promise.{Given, left, outcome, Took}
 use Rattle.boot.specs.declared.Cause.{Cause}
 use Rattle.boot.specs.declared.Cause.the-variants.{Accepted, WrongMemory, ShortReply, BadFrame, UnsoundSession, BoardRunning}
@@ -45,7 +45,7 @@ unfolding outcome call perform
 outcome-cause g = by-test (accepts (causeFor (g .input) (g .state))) refl
   where
     by-test : (b : Bool) → accepts (causeFor (g .input) (g .state)) ≡ b
-        → accepts ((if b then perform (g .input) (g .state) (decide (g .input) (g .state .session) (g .state .memories .usd)) else refused (causeFor (g .input) (g .state)) (g .state)) .cause) ≡ b
+        → accepts ((if b then perform (g .input) (g .state) (decide (g .input) (g .state .session) (viewIn (g .state))) else refused (causeFor (g .input) (g .state)) (g .state)) .cause) ≡ b
     by-test true e = refl
     by-test false e = e
 
@@ -63,7 +63,7 @@ accepted-sound (Byte room b) p t h =
 accepted-sound (Framed room l) p t h =
     accepted-clear (proper (p .memories)) (leb CC.canRoom room) (isFrame classic l) (p .session) h .firm
 
-module _ (g : Given) (lent : List ℕ) (held : g .state .session ≡ sessionIn lent) (k : T (takes (g .input))) {r : Taken} {flash sram usd buffer : List ℕ} (t : Took g (left r flash sram usd buffer)) where
+module _ (g : Given) (lent : List ℕ) (held : g .state .session ≡ sessionIn lent) (k : T (takes (g .input))) {r : Taken} {m : Memories} {buffer : List ℕ} (t : Took g (left r m buffer)) where
   -- where an input is accepted, the slice has the length of a session
   pub accepted-length : r .number ≡ 0 → length lent ≡ sessionLength
   accepted-length z =
@@ -73,7 +73,7 @@ module _ (g : Given) (lent : List ℕ) (held : g .state .session ≡ sessionIn l
       (sym (outcome-cause g) ∙ accepts-number (outcome g .cause) ∙ ap (λ (n : ℕ). eqb n 0) (sym (t .number) ∙ z))))
 
   -- with the session handed on, that is what the exported call promises
-  pub handed-on : {after : List ℕ} → HandsOn r lent after → Takes g lent (r .number) (r .length) after flash sram usd buffer
+  pub handed-on : {after : List ℕ} → HandsOn r lent after → Takes g lent (r .number) (r .length) after m buffer
   handed-on {after} h = record {
     took = record { number = t .number; count = t .count; session = refl; flash = t .flash; sram = t .sram; usd = t .usd; buffer = t .buffer };
     session =

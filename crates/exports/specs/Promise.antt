@@ -3,6 +3,7 @@ use Prim.Native.Nat.{ℕ}
 use mathlib.Core.Path.{_≡_}
 use mathlib.Core.List.{List}
 use Rattle.words.specs.Choice.{if_then_else_}
+use Rattle.memories.specs.Memories.{Memories}
 use Rattle.boot.specs.Session.{fresh}
 use Rattle.boot.specs.Causes.{causeNo, accepts}
 use Rattle.boot.specs.Promise.{Given, left, outcome, Took}
@@ -25,7 +26,7 @@ pub record PowersOn (lent : List ℕ) (n : ℕ) (after : List ℕ) : Type 0 wher
   pub session : after ≡ handedOn (powerCause lent) fresh lent
 
 -- a taking call leaves what the board's own call does, of whose result the session stands in the slice
-pub record Takes (g : Given) (lent : List ℕ) (n count : ℕ) (after flash sram usd buffer : List ℕ) : Type 0 where
-  pub took : Took g (left (record { number = n; length = count; session = outcome g .state .session }) flash sram usd buffer)
+pub record Takes (g : Given) (lent : List ℕ) (n count : ℕ) (after : List ℕ) (m : Memories) (buffer : List ℕ) : Type 0 where
+  pub took : Took g (left (record { number = n; length = count; session = outcome g .state .session }) m buffer)
   pub session : after ≡ handedOn (outcome g .cause) (outcome g .state .session) lent
   pub held : sessionIn after ≡ outcome g .state .session

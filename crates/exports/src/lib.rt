@@ -1,4 +1,5 @@
 // The calls of the board for programs in Rust and C, over slices of bytes that the caller lends.
+ghost use Rattle.memories.specs.Lent.{were, are};
 ghost use Rattle.boot.specs.Promise.{givenByte, givenFrame};
 ghost use Rattle.lent.specs.Sessions.{sessionIn};
 ghost use Rattle.exports.specs.Promise.{PowersOn, Takes};
@@ -27,7 +28,7 @@ pub extern "C" fn oilthicket_take_byte(
     buffer: &mut [u8],
     length: &mut usize,
 ) -> u8
-    ensures { λ r. ⌜ Takes (givenByte (sessionIn (now (session .entry))) byte (now (flash .entry)) (now (sram .entry)) (now (usd .entry)) (now (buffer .entry))) (now (session .entry)) r (now (length .exit)) (now (session .exit)) (now (flash .exit)) (now (sram .exit)) (now (usd .exit)) (now (buffer .exit)) ⌝ }
+    ensures { λ r. ⌜ Takes (givenByte (sessionIn (now (session .entry))) byte (were flash sram usd) (now (buffer .entry))) (now (session .entry)) r (now (length .exit)) (now (session .exit)) (are flash sram usd) (now (buffer .exit)) ⌝ }
 {
     let taken = lent::read(session).take_byte(byte, flash, sram, usd, buffer);
     *length = taken.length;
@@ -45,7 +46,7 @@ pub extern "C" fn oilthicket_take_frame(
     buffer: &mut [u8],
     length: &mut usize,
 ) -> u8
-    ensures { λ r. ⌜ Takes (givenFrame (sessionIn (now (session .entry))) (now (frame .entry)) (now (flash .entry)) (now (sram .entry)) (now (usd .entry)) (now (buffer .entry))) (now (session .entry)) r (now (length .exit)) (now (session .exit)) (now (flash .exit)) (now (sram .exit)) (now (usd .exit)) (now (buffer .exit)) ⌝ }
+    ensures { λ r. ⌜ Takes (givenFrame (sessionIn (now (session .entry))) (now (frame .entry)) (were flash sram usd) (now (buffer .entry))) (now (session .entry)) r (now (length .exit)) (now (session .exit)) (are flash sram usd) (now (buffer .exit)) ⌝ }
 {
     let taken = lent::read(session).take_frame(frame, flash, sram, usd, buffer);
     *length = taken.length;

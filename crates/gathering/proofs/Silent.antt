@@ -11,6 +11,7 @@ use lib.Seq.{take-all}
 use Rattle.words.specs.Over.{put}
 use Rattle.words.proofs.Over.{put-then}
 use Rattle.words.proofs.Tests.{both-left, holds-true}
+use Rattle.board.specs.declared.View.{View}
 use Rattle.memories.specs.Memories.{proper}
 use Rattle.memories.specs.Effects.{effect}
 use Rattle.command.specs.Commands.{code}
@@ -33,7 +34,7 @@ use Rattle.boot.specs.Session.{on, sound, progress, gathered, after}
 use Rattle.carriers.specs.Carriers.{stepSound}
 use Rattle.boot.specs.Causes.{causeOf}
 use Rattle.boot.specs.Decide.{connected, decideByte, decideFrame}
-use Rattle.boot.specs.Calls.{State, Byte, Framed, Outcome, causeFor, decide, sent, perform, call}
+use Rattle.boot.specs.Calls.{State, Byte, Framed, Outcome, viewIn, causeFor, decide, sent, perform, call}
 use Rattle.gathering.specs.Gathering.{HearsFrames, SilentFrame}
 use Rattle.carriers.specs.declared.Carrier.the-variants.{Uart, Can}
 use Rattle.boot.specs.declared.Cause.the-variants.{Accepted}
@@ -129,13 +130,13 @@ unfolding CC.gathering if_gives_else_
 silent-step c p f done b h s =
     rw (eq-eqb (f .id) (code c) (sym b), ne-eqb (f .dlc) 0 (λ e. omega arith), lt-ltb (p .taken + length (f .bytes)) (p .expected) s) refl
 
-frame-heard : (k : CS.Step) (p : Progress) (usd : List ℕ) (f : Frame) → T (C.expects k (p .expected)) → CC.bears k (f .id) ≡ f .id → 0 < f .dlc
-    → length (carried f) ≡ f .dlc → p .taken + length (carried f) < p .expected → CC.heard k p usd f ≡ answer Silence Gather
+frame-heard : (k : CS.Step) (p : Progress) (view : View) (f : Frame) → T (C.expects k (p .expected)) → CC.bears k (f .id) ≡ f .id → 0 < f .dlc
+    → length (carried f) ≡ f .dlc → p .taken + length (carried f) < p .expected → CC.heard k p view f ≡ answer Silence Gather
 unfolding CC.heard CC.decided
-frame-heard CSV.Idle p usd f t b h l s = absurd (omega (arith, eqb→eq (p .expected) 1 t))
-frame-heard CSV.WriteData p usd f t b h l s = silent-step WriteMemory _ (counted f) _ b h s
-frame-heard CSV.EraseList p usd f t b h l s = silent-step Erase _ (counted f) _ b h s
-frame-heard CSV.ProtectList p usd f t b h l s = silent-step ProgramProtect _ (counted f) _ b h s
+frame-heard CSV.Idle p view f t b h l s = absurd (omega (arith, eqb→eq (p .expected) 1 t))
+frame-heard CSV.WriteData p view f t b h l s = silent-step WriteMemory _ (counted f) _ b h s
+frame-heard CSV.EraseList p view f t b h l s = silent-step Erase _ (counted f) _ b h s
+frame-heard CSV.ProtectList p view f t b h l s = silent-step ProgramProtect _ (counted f) _ b h s
 
 -- an ID that such a step gathers is that of a frame
 own-small : (k : CS.Step) (expected id : ℕ) → T (C.expects k expected) → 1 < expected → CC.bears k id ≡ id → id ≤ largestId
@@ -169,6 +170,6 @@ gathers-frame room l p r g f h =
       holds-true (sound s) (g .firm),
       ne-eqb (s .carrier) 3 (λ e. omega arith),
       holds-true (on Can s) (g .here),
-      frame-heard (C.stepOf (s .step)) (progress s) (p .memories .usd) (frameIn l) (can-expects s (g .firm) (g .here)) (h .own) (h .some) k
+      frame-heard (C.stepOf (s .step)) (progress s) (viewIn p) (frameIn l) (can-expects s (g .firm) (g .here)) (h .own) (h .some) k
           (omega (arith, h .short)),
     ) refl

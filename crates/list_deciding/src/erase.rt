@@ -3,13 +3,12 @@ ghost use Prim.Native.Nat.{_*_, _≤_};
 ghost use lib.Dec.{T};
 ghost use lib.ListN.{length};
 ghost use Rattle.words.specs.Lists.{any, all};
-ghost use Rattle.board.specs.Board.{extentOf};
 ghost use Rattle.board.specs.Quantities.{isSector, firstNumbered};
-ghost use Rattle.board.specs.Usd.{writeProtected};
-ghost use Rattle.board.specs.declared.Region.the-variants.{Usd};
+ghost use Rattle.board.specs.View.{writeProtected};
 ghost use Rattle.rules.specs.Rules.{selectorOf, eraseVerdict, erasing, eraseAllVerdict};
 use board::LessOne;
 use board::Sector;
+use board::View;
 use command::Decision;
 use command::Next;
 use command::Reply;
@@ -62,15 +61,15 @@ fn all_numbered(staged: &[u8], x: usize) -> bool
 }
 
 // Whether one of the x staged two-byte numbers names a write-protected sector.
-fn any_numbered_protected(usd: &[u8], staged: &[u8], x: usize) -> bool
-    requires { ⌜ (length (now usd) ≡ extentOf Usd .bytes) × (2 * x ≤ length (now staged)) × T (all isSector (firstNumbered x (now staged))) ⌝ }
-    ensures { λ r. ⌜ r ≡ any (writeProtected (now (usd .entry))) (firstNumbered x (now (staged .entry))) ⌝ }
+fn any_numbered_protected(view: View, staged: &[u8], x: usize) -> bool
+    requires { ⌜ (2 * x ≤ length (now staged)) × T (all isSector (firstNumbered x (now staged))) ⌝ }
+    ensures { λ r. ⌜ r ≡ any (writeProtected view) (firstNumbered x (now (staged .entry))) ⌝ }
 {
     let end = 2 * x;
     let mut j = 0;
     while j < end {
         let k = words::number2(staged[j], staged[j + 1]);
-        if board::usd::write_protected(usd, Sector(k)) {
+        if view.write_protected(Sector(k)) {
             return true;
         }
         j += 2;
@@ -79,15 +78,15 @@ fn any_numbered_protected(usd: &[u8], staged: &[u8], x: usize) -> bool
 }
 
 // Whether the x sectors whose numbers are staged may be erased.
-fn erase_verdict(usd: &[u8], staged: &[u8], x: usize) -> Verdict
-    requires { ⌜ (length (now usd) ≡ extentOf Usd .bytes) × (2 * x ≤ length (now staged)) ⌝ }
-    ensures { λ r. ⌜ r ≡ eraseVerdict (now (usd .entry)) (firstNumbered x (now (staged .entry))) ⌝ }
+fn erase_verdict(view: View, staged: &[u8], x: usize) -> Verdict
+    requires { ⌜ 2 * x ≤ length (now staged) ⌝ }
+    ensures { λ r. ⌜ r ≡ eraseVerdict view (firstNumbered x (now (staged .entry))) ⌝ }
 {
     let sectors = all_numbered(staged, x);
     if !sectors {
         return Verdict::No(Why::BadSector);
     }
-    let forbidden = any_numbered_protected(usd, staged, x);
+    let forbidden = any_numbered_protected(view, staged, x);
     if forbidden {
         Verdict::No(Why::WriteProtected)
     } else {
@@ -96,26 +95,25 @@ fn erase_verdict(usd: &[u8], staged: &[u8], x: usize) -> Verdict
 }
 
 // An erase of the x sectors whose numbers are staged, or of none.
-pub fn erase(usd: &[u8], staged: &[u8], x: usize) -> Decision
-    requires { ⌜ (length (now usd) ≡ extentOf Usd .bytes) × (2 * x ≤ length (now staged)) ⌝ }
-    ensures { λ r. ⌜ r ≡ erasing (now (usd .entry)) (now (staged .entry)) x ⌝ }
+pub fn erase(view: View, staged: &[u8], x: usize) -> Decision
+    requires { ⌜ 2 * x ≤ length (now staged) ⌝ }
+    ensures { λ r. ⌜ r ≡ erasing view (now (staged .entry)) x ⌝ }
 {
     command::judged(
-        erase_verdict(usd, staged, x),
+        erase_verdict(view, staged, x),
         command::alter(Reply::Ack, Change::EraseSectors(x), Next::GoIdle),
     )
 }
 
 // Whether a special selector may erase all flash.
-pub fn erase_all_verdict(usd: &[u8], number: u32) -> Verdict
-    requires { ⌜ length (now usd) ≡ extentOf Usd .bytes ⌝ }
-    ensures { λ r. ⌜ r ≡ eraseAllVerdict (now (usd .entry)) number ⌝ }
+pub fn erase_all_verdict(view: View, number: u32) -> Verdict
+    ensures { λ r. ⌜ r ≡ eraseAllVerdict view number ⌝ }
 {
     let all = (number == WHOLE_FLASH) | (number == FIRST_BANK);
     if !all {
         return Verdict::No(Why::UnsupportedErase);
     }
-    let forbidden = board::usd::any_write_protected(usd, Sector(0), Board::SECTORS);
+    let forbidden = view.any_write_protected(Sector(0), Board::SECTORS);
     if forbidden {
         Verdict::No(Why::WriteProtected)
     } else {

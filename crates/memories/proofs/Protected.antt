@@ -18,8 +18,10 @@ use Rattle.words.specs.Over.{newer, within}
 use Rattle.words.proofs.Over.{length-over, over-within, over-at}
 use Rattle.words.proofs.Tests.{both-left, both-right, fails-false}
 use Rattle.board.specs.Quantities.{isSector, named}
-use Rattle.board.specs.Usd.{besideBits, bitByte, writeProtected}
+use Rattle.board.specs.Usd.{besideBits, bitByte}
+use Rattle.board.specs.View.{viewOf, writeProtected}
 use Rattle.board.specs.declared.Sector.{Sector}
+use Rattle.board.proofs.Bits.{by-its-bit}
 use Rattle.memories.specs.Protection.{released, alsoProtected, allProtected, onlyProtected}
 
 -- ---- bits, by a table of 64 cases that is computed
@@ -64,9 +66,10 @@ masked x s b hs hb = rw (and-bit x (255 - 2 ^ s) b, mask-bit s b hs hb) (by-test
 
 -- protecting a sector too protects it, and changes nothing for any other
 also-protected : (u : List ℕ) (j k : Sector) → length u ≡ 64 → j .0 < 32 → k .0 < 32
-    → writeProtected (alsoProtected u j) k ≡ (writeProtected u k || eqb (j .0) (k .0))
-unfolding writeProtected alsoProtected
-also-protected u j k l hj hk = by-byte (eqb (j .0 / 8) (k .0 / 8)) refl
+    → writeProtected (viewOf (alsoProtected u j)) k ≡ (writeProtected (viewOf u) k || eqb (j .0) (k .0))
+unfolding alsoProtected
+also-protected u j k l hj hk =
+    rw (by-its-bit (alsoProtected u j) k hk, by-its-bit u k hk) (by-byte (eqb (j .0 / 8) (k .0 / 8)) refl)
   where
     m : ℕ
     m = 255 - 2 ^ (j .0 % 8)
@@ -101,22 +104,22 @@ unfolding alsoProtected
 length-also u j = simp length-set
 
 all-protected : (u : List ℕ) (ks : List Sector) (k : Sector) → length u ≡ 64 → T (all isSector ks) → k .0 < 32
-    → writeProtected (allProtected u ks) k ≡ (writeProtected u k || named ks k)
-all-protected u [] k l t h = sym (or-false (writeProtected u k))
+    → writeProtected (viewOf (allProtected u ks)) k ≡ (writeProtected (viewOf u) k || named ks k)
+all-protected u [] k l t h = sym (or-false (writeProtected (viewOf u) k))
 all-protected u (j ∷ ks) k l t h =
     let hj : j .0 < 32 = ltb→lt (j .0) 32 (both-left (isSector j) (all isSector ks) t) in
     all-protected (alsoProtected u j) ks k (length-also u j ∙ l) (both-right (isSector j) (all isSector ks) t) h
     ∙ ap (λ (b : Bool). b || named ks k) (also-protected u j k l hj h)
-    ∙ or-assoc (writeProtected u k) (eqb (j .0) (k .0)) (named ks k)
+    ∙ or-assoc (writeProtected (viewOf u) k) (eqb (j .0) (k .0)) (named ks k)
 
 -- after 0x73 no sector is write-protected
-pub released-none : (u : List ℕ) (k : Sector) → length u ≡ 64 → k .0 < 32 → writeProtected (released u) k ≡ false
-unfolding writeProtected released
+pub released-none : (u : List ℕ) (k : Sector) → length u ≡ 64 → k .0 < 32 → writeProtected (viewOf (released u)) k ≡ false
+unfolding released
 released-none u k l h =
     let a : getD (released u) (8 + k .0 / 8) 0 ≡ 255 =
     over-within newer u 8 (replicate 4 0xFF) (k .0 / 8) (omega arith) (omega arith)
     ∙ getD-replicate {A = ℕ} 4 (k .0 / 8) 255 0 (omega arith) in
-    rw (a, ones-bit (k .0 % 8) (omega arith))
+    rw (by-its-bit (released u) k h, a, ones-bit (k .0 % 8) (omega arith))
 
 length-released : (u : List ℕ) → length (released u) ≡ length u
 unfolding released
@@ -124,7 +127,7 @@ length-released u = length-over newer u 8 (replicate 4 0xFF)
 
 -- after 0x63 exactly the named sectors are write-protected
 pub only-named : (u : List ℕ) (ks : List Sector) (k : Sector) → length u ≡ 64 → T (all isSector ks) → k .0 < 32
-    → writeProtected (onlyProtected u ks) k ≡ named ks k
+    → writeProtected (viewOf (onlyProtected u ks)) k ≡ named ks k
 unfolding onlyProtected
 only-named u ks k l t h =
     all-protected (released u) ks k (length-released u ∙ l) t h

@@ -1,3 +1,4 @@
 pub mod Memories
+pub mod Lent
 pub mod Protection
 pub mod Effects

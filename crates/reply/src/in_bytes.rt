@@ -2,7 +2,8 @@ ghost use Prim.Native.Nat.{_≤_};
 ghost use lib.Dec.{T};
 ghost use lib.ListN.{length};
 ghost use Rattle.words.specs.Lists.{join};
-ghost use Rattle.memories.specs.Memories.{memories, proper};
+ghost use Rattle.memories.specs.Lent.{held, were};
+ghost use Rattle.memories.specs.Memories.{proper};
 ghost use Rattle.command.specs.Says.{says, sayable, Said};
 ghost use Rattle.reply.specs.Fixed.{Holds, Lists};
 ghost use Rattle.uart.specs.Conversation.{uartRoom, commandBytes};
@@ -28,8 +29,8 @@ fn commands() -> Fixed
 
 // Writes a reply that can be given, and tells its length.
 pub fn say(reply: Reply, flash: &[u8], sram: &[u8], usd: &[u8], buffer: &mut [u8]) -> usize
-    requires { ⌜ T (proper (memories (now flash) (now sram) (now usd))) × T (sayable reply) × (uartRoom ≤ length (now buffer)) ⌝ }
-    ensures { λ r. ⌜ Said (join (says commandBytes reply (memories (now (flash .entry)) (now (sram .entry)) (now (usd .entry))))) r (now (buffer .entry)) (now (buffer .exit)) ⌝ }
+    requires { ⌜ T (proper (held flash sram usd)) × T (sayable reply) × (uartRoom ≤ length (now buffer)) ⌝ }
+    ensures { λ r. ⌜ Said (join (says commandBytes reply (were flash sram usd))) r (now (buffer .entry)) (now (buffer .exit)) ⌝ }
 {
     crate::say(commands(), reply, flash, sram, usd, buffer)
 }

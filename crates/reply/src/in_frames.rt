@@ -2,7 +2,8 @@ ghost use mathlib.Core.Path.{_≡_};
 ghost use Prim.Native.Nat.{_≤_, _<_};
 ghost use lib.Dec.{T};
 ghost use lib.ListN.{length};
-ghost use Rattle.memories.specs.Memories.{memories, proper};
+ghost use Rattle.memories.specs.Lent.{held, were};
+ghost use Rattle.memories.specs.Memories.{proper};
 ghost use Rattle.command.specs.Says.{says, sayable, Said};
 ghost use Rattle.reply.specs.Fixed.{Holds, Lists};
 ghost use Rattle.frames.specs.Frames.{classic, framed, firstAlone};
@@ -53,8 +54,8 @@ fn put_reply(id: u16, bytes: &[u8], piece: usize, buffer: &mut [u8]) -> usize
 
 // Writes a reply that can be given in frames of an ID, and tells its length.
 pub fn say(reply: Reply, id: u16, flash: &[u8], sram: &[u8], usd: &[u8], buffer: &mut [u8]) -> usize
-    requires { ⌜ T (proper (memories (now flash) (now sram) (now usd))) × T (sayable reply) × (canRoom ≤ length (now buffer)) ⌝ }
-    ensures { λ r. ⌜ Said (framed classic id (says commandBytes reply (memories (now (flash .entry)) (now (sram .entry)) (now (usd .entry))))) r (now (buffer .entry)) (now (buffer .exit)) ⌝ }
+    requires { ⌜ T (proper (held flash sram usd)) × T (sayable reply) × (canRoom ≤ length (now buffer)) ⌝ }
+    ensures { λ r. ⌜ Said (framed classic id (says commandBytes reply (were flash sram usd))) r (now (buffer .entry)) (now (buffer .exit)) ⌝ }
 {
     let mut bytes = [0u8; uart::ROOM];
     let n = crate::say(commands(), reply, flash, sram, usd, &mut bytes);

@@ -12,7 +12,8 @@ ghost use Rattle.words.specs.Over.{put};
 ghost use Rattle.board.specs.Board.{extentOf};
 ghost use Rattle.board.specs.Quantities.{largestCount};
 ghost use Rattle.crc.specs.Crc.{crc};
-ghost use Rattle.memories.specs.Memories.{Memories, memories, proper, bytesOf};
+ghost use Rattle.memories.specs.Lent.{held, were};
+ghost use Rattle.memories.specs.Memories.{Memories, proper, bytesOf};
 ghost use Rattle.command.specs.Says.{replyRoom, ackByte, says, sayable, fixed, Said};
 ghost use Rattle.reply.specs.Fixed.{fixedRoom, listing, Holds, Lists};
 use board::Region;
@@ -147,8 +148,8 @@ fn say_data(
     usd: &[u8],
     buffer: &mut [u8],
 ) -> usize
-    requires { ⌜ T (proper (memories (now flash) (now sram) (now usd))) × (x ≤ largestCount) × (at + x ≤ extentOf region .bytes) × (replyRoom ≤ length (now buffer)) ⌝ }
-    ensures { λ r. ⌜ (r ≡ x + 1) × (now (buffer .exit) ≡ put (now (buffer .entry)) 0 (ackByte ∷ part at x (bytesOf region (memories (now (flash .entry)) (now (sram .entry)) (now (usd .entry)))))) ⌝ }
+    requires { ⌜ T (proper (held flash sram usd)) × (x ≤ largestCount) × (at + x ≤ extentOf region .bytes) × (replyRoom ≤ length (now buffer)) ⌝ }
+    ensures { λ r. ⌜ (r ≡ x + 1) × (now (buffer .exit) ≡ put (now (buffer .entry)) 0 (ackByte ∷ part at x (bytesOf region (were flash sram usd)))) ⌝ }
 {
     match region {
         Region::Flash => say_bytes(flash, at, x, buffer),
@@ -213,8 +214,8 @@ pub fn say(
     usd: &[u8],
     buffer: &mut [u8],
 ) -> usize
-    requires { ⌜ Holds commands × T (proper (memories (now flash) (now sram) (now usd))) × T (sayable reply) × (replyRoom ≤ length (now buffer)) ⌝ }
-    ensures { λ r. ⌜ ((list : List ℕ) → Lists commands list → Said (join (says list reply (memories (now (flash .entry)) (now (sram .entry)) (now (usd .entry))))) r (now (buffer .entry)) (now (buffer .exit))) × (r ≤ replyRoom) × (T (fixed reply) → r ≤ fixedRoom) ⌝ }
+    requires { ⌜ Holds commands × T (proper (held flash sram usd)) × T (sayable reply) × (replyRoom ≤ length (now buffer)) ⌝ }
+    ensures { λ r. ⌜ ((list : List ℕ) → Lists commands list → Said (join (says list reply (were flash sram usd))) r (now (buffer .entry)) (now (buffer .exit))) × (r ≤ replyRoom) × (T (fixed reply) → r ≤ fixedRoom) ⌝ }
 {
     match reply {
         Reply::Data(region, at, x) => say_data(region, at, x, flash, sram, usd, buffer),

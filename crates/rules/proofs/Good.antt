@@ -10,11 +10,12 @@ use Rattle.words.specs.Lists.{any, all}
 use Rattle.board.specs.Board as B
 use Rattle.board.specs.Quantities.{isSector, bytesIn, firstIndexed, firstNumbered}
 use Rattle.board.specs.Regions.{placeOf}
-use Rattle.board.specs.Usd.{writeProtected}
+use Rattle.board.specs.View.{writeProtected}
 use Rattle.constants.specs.declared.Address.{Address}
 use Rattle.board.specs.declared.Place.{Place}
 use Rattle.board.specs.declared.Place.the-variants.{In, Nowhere}
 use Rattle.board.specs.declared.Region.the-variants.{Flash, Sram, Usd}
+use Rattle.board.specs.declared.View.{View}
 use Rattle.board.proofs.Regions.{room}
 use Rattle.memories.specs.Effects.{fits}
 use Rattle.memories.specs.declared.Change.the-variants.{EraseSectors, ProtectOnly}
@@ -60,13 +61,13 @@ module _ (staged : List ℕ) where
       record { holds = record { sayable = tt; fits = rw (le-leb x 256 h, le-leb (at + x) (B.extentOf r .bytes) (room a x r at e)) tt } }
   write-good a x h Nowhere e = told tt
 
-  pub writing-good : (usd : List ℕ) (a : Address) (x : ℕ) → x ≤ 256 → Holds (Good staged) (writing usd a x)
+  pub writing-good : (view : View) (a : Address) (x : ℕ) → x ≤ 256 → Holds (Good staged) (writing view a x)
   unfolding writing
-  writing-good usd a x h = judged-either (Good staged) _ refusal (write-good a x h (placeOf a x) refl)
+  writing-good view a x h = judged-either (Good staged) _ refusal (write-good a x h (placeOf a x) refl)
 
-  pub erasing-good : (usd : List ℕ) (x : ℕ) → x ≤ 32 → Holds (Good staged) (erasing usd staged x)
+  pub erasing-good : (view : View) (x : ℕ) → x ≤ 32 → Holds (Good staged) (erasing view staged x)
   unfolding erasing eraseVerdict judged
-  erasing-good usd x h = by-tests (all isSector (firstNumbered x staged)) refl (any (writeProtected usd) (firstNumbered x staged))
+  erasing-good view x h = by-tests (all isSector (firstNumbered x staged)) refl (any (writeProtected view) (firstNumbered x staged))
     where
       by-tests : (t : Bool) → all isSector (firstNumbered x staged) ≡ t → (u : Bool)
           → Holds (Good staged) (judged (if not t then No BadSector else if u then No WriteProtected else Fine) (alter Ack (EraseSectors x) GoIdle))

@@ -6,8 +6,9 @@ use lib.ListN.{replicate, set}
 use Rattle.words.specs.Hex.{hex}
 use Rattle.board.specs.Board.{address}
 use Rattle.board.specs.Regions.{placeOf}
-use Rattle.board.specs.Usd.{writeProtected}
+use Rattle.board.specs.View.{viewOf, writeProtected}
 use Rattle.board.specs.declared.Region.the-variants.{Flash, Sram, Usd}
+use Rattle.board.specs.declared.View.{View}
 use Rattle.memories.specs.Memories.{freshUsd}
 use Rattle.memories.specs.declared.Change.the-variants.{Write, EraseAll, EraseSectors, ProtectOnly}
 use Rattle.command.specs.Decision.{if_gives_else_, answer, alter, nack, judged}
@@ -18,12 +19,15 @@ use Rattle.command.specs.declared.Reply.the-variants.{Ack, Data, Crc}
 use Rattle.command.specs.declared.Why.the-variants.{AccessProtected, BadAddress, BadRange, BadSector, WriteProtected, UnsupportedErase}
 use Rattle.rules.specs.Rules.{unlessProtected, readAt, reading, writeVerdictAt, writeVerdict, writeAt, writing, eraseVerdict, erasing, eraseAllVerdict, protectVerdict, protecting, resetting, jumping, sumAt, summing}
 
--- with sector 1 write-protected; with protection on
-abbrev pub oneProtected : List ℕ
-oneProtected = set freshUsd 8 0xFD
+-- what is looked at of a fresh board, of one with sector 1 write-protected, and of one with protection on
+abbrev pub fresh : View
+fresh = viewOf freshUsd
 
-abbrev pub lockedUsd : List ℕ
-lockedUsd = replicate 64 0xFF
+abbrev pub oneProtected : View
+oneProtected = viewOf (set freshUsd 8 0xFD)
+
+abbrev pub locked : View
+locked = viewOf (replicate 64 0xFF)
 
 -- what the definitions decide, and what the paper does
 pub record Ruling : Type 0 where
@@ -43,28 +47,28 @@ papers rs = map (λ (r : Ruling). r .paper) rs
 
 abbrev rulings : List Ruling
 rulings =
-    (unlessProtected lockedUsd ReadMemory resetting is nack AccessProtected)
-    ∷ (unlessProtected lockedUsd FirmwareCrc resetting is resetting)
-    ∷ (unlessProtected freshUsd ReadMemory resetting is resetting)
+    (unlessProtected locked ReadMemory resetting is nack AccessProtected)
+    ∷ (unlessProtected locked FirmwareCrc resetting is resetting)
+    ∷ (unlessProtected fresh ReadMemory resetting is resetting)
     ∷ (reading (address 0x08000000) 4 is answer (Data Flash 0 4) GoIdle)
     ∷ (reading (address 0x20001FFF) 1 is answer (Data Sram 8191 1) GoIdle)
     ∷ (reading (address 0x20001FFF) 2 is nack BadRange)
     ∷ (reading (address 0x1FFFF83F) 1 is answer (Data Usd 63 1) GoIdle)
     ∷ (reading (address 0x07FFFFFF) 1 is nack BadAddress)
-    ∷ (writing freshUsd (address 0x080003FF) 2 is alter Ack (Write Flash 1023 2) GoIdle)
+    ∷ (writing fresh (address 0x080003FF) 2 is alter Ack (Write Flash 1023 2) GoIdle)
     ∷ (writing oneProtected (address 0x080003FF) 2 is nack WriteProtected)
     ∷ (writing oneProtected (address 0x080003FF) 1 is alter Ack (Write Flash 1023 1) GoIdle)
-    ∷ (writing freshUsd (address 0x08007FFF) 1 is alter Ack (Write Flash 32767 1) GoIdle)
-    ∷ (writing freshUsd (address 0x08007FFF) 2 is nack BadRange)
-    ∷ (writing freshUsd (address 0x1FFFF800) 64 is alter Ack (Write Usd 0 64) Reset)
-    ∷ (writing freshUsd (address 0x1FFFF800) 63 is nack BadRange)
-    ∷ (writing freshUsd (address 0x1FFFF801) 63 is nack BadRange)
-    ∷ (erasing freshUsd (hex "00 1F 00 1F") 2 is alter Ack (EraseSectors 2) GoIdle)
-    ∷ (erasing freshUsd (hex "00 00 00 20") 2 is nack BadSector)
+    ∷ (writing fresh (address 0x08007FFF) 1 is alter Ack (Write Flash 32767 1) GoIdle)
+    ∷ (writing fresh (address 0x08007FFF) 2 is nack BadRange)
+    ∷ (writing fresh (address 0x1FFFF800) 64 is alter Ack (Write Usd 0 64) Reset)
+    ∷ (writing fresh (address 0x1FFFF800) 63 is nack BadRange)
+    ∷ (writing fresh (address 0x1FFFF801) 63 is nack BadRange)
+    ∷ (erasing fresh (hex "00 1F 00 1F") 2 is alter Ack (EraseSectors 2) GoIdle)
+    ∷ (erasing fresh (hex "00 00 00 20") 2 is nack BadSector)
     ∷ (erasing oneProtected (hex "00 00 00 01") 2 is nack WriteProtected)
-    ∷ (judged (eraseAllVerdict freshUsd 0xFFFE) (alter Ack EraseAll GoIdle) is alter Ack EraseAll GoIdle)
+    ∷ (judged (eraseAllVerdict fresh 0xFFFE) (alter Ack EraseAll GoIdle) is alter Ack EraseAll GoIdle)
     ∷ (judged (eraseAllVerdict oneProtected 0xFFFF) (alter Ack EraseAll GoIdle) is nack WriteProtected)
-    ∷ (judged (eraseAllVerdict freshUsd 0xFFFD) (alter Ack EraseAll GoIdle) is nack UnsupportedErase)
+    ∷ (judged (eraseAllVerdict fresh 0xFFFD) (alter Ack EraseAll GoIdle) is nack UnsupportedErase)
     ∷ (protecting (hex "00 1F") 2 is alter Ack (ProtectOnly 2) Reset)
     ∷ (protecting (hex "00 20") 2 is nack BadSector)
     ∷ (jumping (address 0x20000000) is answer Ack (Run 0x20000000))
@@ -75,5 +79,5 @@ rulings =
     ∷ []
 
 pub ruled : decisions rulings ≡ papers rulings
-unfolding placeOf writeProtected if_gives_else_ judged unlessProtected readAt reading writeVerdictAt writeVerdict writeAt writing eraseVerdict erasing eraseAllVerdict protectVerdict protecting jumping sumAt summing
+unfolding placeOf viewOf writeProtected if_gives_else_ judged unlessProtected readAt reading writeVerdictAt writeVerdict writeAt writing eraseVerdict erasing eraseAllVerdict protectVerdict protecting jumping sumAt summing
 ruled = refl

@@ -8,13 +8,14 @@ use Rattle.words.specs.Lists.{any, all}
 use Rattle.board.specs.Board as B
 use Rattle.board.specs.Quantities.{countOf, lessOne, bytesIn, isSector, everySector, firstIndexed, firstNumbered}
 use Rattle.board.specs.Regions.{placeOf, known, jumpable, sectorStart, touched}
-use Rattle.board.specs.Usd.{protectionOn, writeProtected}
+use Rattle.board.specs.View.{writeProtected}
 use Rattle.constants.specs.declared.Address.{Address}
 use Rattle.board.specs.declared.Place.{Place}
 use Rattle.board.specs.declared.Place.the-variants.{In, Nowhere}
 use Rattle.board.specs.declared.Region.{Region}
 use Rattle.board.specs.declared.Region.the-variants.{Flash, Sram, Usd}
 use Rattle.board.specs.declared.Sector.{Sector}
+use Rattle.board.specs.declared.View.{View}
 use Rattle.memories.specs.declared.Change.the-variants.{Write, EraseSectors, ProtectOnly, Release, Lock, Unlock}
 use Rattle.command.specs.Commands.{protected}
 use Rattle.command.specs.Decision.{if_gives_else_, answer, alter, nack, judged}
@@ -31,8 +32,8 @@ use Rattle.rules.specs.declared.Selector.{Selector}
 use Rattle.rules.specs.declared.Selector.the-variants.{Listed, Special, Impossible}
 
 -- Protected commands are NACKed while protection is on
-unfoldable pub unlessProtected : List ℕ → Command → Decision → Decision
-unlessProtected usd c d = if protectionOn usd && protected c gives nack AccessProtected else d
+unfoldable pub unlessProtected : View → Command → Decision → Decision
+unlessProtected view c d = if view .locked && protected c gives nack AccessProtected else d
 
 -- 0x00, 0x01 and 0x02 are answered at once
 abbrev pub telling : Reply → Decision
@@ -47,14 +48,14 @@ unfoldable pub reading : Address → ℕ → Decision
 reading a x = if known a gives readAt (placeOf a x) x else nack BadAddress
 
 -- 0x31: the range, the whole of user system data, the sectors that are touched
-unfoldable pub writeVerdictAt : List ℕ → Place → ℕ → Verdict
-writeVerdictAt usd (In Flash at) x = if any (writeProtected usd) (touched at x) then No WriteProtected else Fine
-writeVerdictAt usd (In Sram at) x = Fine
-writeVerdictAt usd (In Usd at) x = if eqb at 0 && eqb x (B.usd .bytes) then Fine else No BadRange
-writeVerdictAt usd Nowhere x = No BadRange
+unfoldable pub writeVerdictAt : View → Place → ℕ → Verdict
+writeVerdictAt view (In Flash at) x = if any (writeProtected view) (touched at x) then No WriteProtected else Fine
+writeVerdictAt view (In Sram at) x = Fine
+writeVerdictAt view (In Usd at) x = if eqb at 0 && eqb x (B.usd .bytes) then Fine else No BadRange
+writeVerdictAt view Nowhere x = No BadRange
 
-unfoldable pub writeVerdict : List ℕ → Address → ℕ → Verdict
-writeVerdict usd a x = if known a then writeVerdictAt usd (placeOf a x) x else No BadAddress
+unfoldable pub writeVerdict : View → Address → ℕ → Verdict
+writeVerdict view a x = if known a then writeVerdictAt view (placeOf a x) x else No BadAddress
 
 -- user system data is replaced, then reset
 abbrev pub afterWrite : Region → Next
@@ -68,8 +69,8 @@ writeAt (In r at) x = alter Ack (Write r at x) (afterWrite r)
 writeAt Nowhere x = nack BadRange
 
 -- x staged bytes go to an address, or the write is refused whole
-unfoldable pub writing : List ℕ → Address → ℕ → Decision
-writing usd a x = judged (writeVerdict usd a x) (writeAt (placeOf a x) x)
+unfoldable pub writing : View → Address → ℕ → Decision
+writing view a x = judged (writeVerdict view a x) (writeAt (placeOf a x) x)
 
 -- the first special selector, and the two that erase all flash
 abbrev pub firstSpecial : ℕ
@@ -89,21 +90,21 @@ selectorOf n =
     else Impossible
 
 -- any number over 31 or any write-protected sector named refuses the whole list
-unfoldable pub eraseVerdict : List ℕ → List Sector → Verdict
-eraseVerdict usd ks =
+unfoldable pub eraseVerdict : View → List Sector → Verdict
+eraseVerdict view ks =
     if not (all isSector ks) then No BadSector
-    else if any (writeProtected usd) ks then No WriteProtected
+    else if any (writeProtected view) ks then No WriteProtected
     else Fine
 
 -- the x sectors whose numbers are staged are erased, or none
-unfoldable pub erasing : List ℕ → List ℕ → ℕ → Decision
-erasing usd staged x = judged (eraseVerdict usd (firstNumbered x staged)) (alter Ack (EraseSectors x) GoIdle)
+unfoldable pub erasing : View → List ℕ → ℕ → Decision
+erasing view staged x = judged (eraseVerdict view (firstNumbered x staged)) (alter Ack (EraseSectors x) GoIdle)
 
 -- 0xFFFF and 0xFFFE both mean all flash, refused if any sector is write-protected; other special selectors are refused, and name none
-unfoldable pub eraseAllVerdict : List ℕ → ℕ → Verdict
-eraseAllVerdict usd n =
+unfoldable pub eraseAllVerdict : View → ℕ → Verdict
+eraseAllVerdict view n =
     if not (eqb n wholeFlash || eqb n firstBank) then No UnsupportedErase
-    else if any (writeProtected usd) everySector then No WriteProtected
+    else if any (writeProtected view) everySector then No WriteProtected
     else Fine
 
 -- 0x63: an index over 31 refuses all; then reset

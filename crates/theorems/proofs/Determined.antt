@@ -19,6 +19,6 @@ took-once g l k p q = λ i. record {
 pub determined : Determined
 determined = record {
   powerOn = λ s t p q. p .session ∙ sym (q .session);
-  takeByte = λ s b flash sram usd buffer l k p q. took-once (givenByte s b flash sram usd buffer) l k p q;
-  takeFrame = λ s frame flash sram usd buffer l k p q. took-once (givenFrame s frame flash sram usd buffer) l k p q;
+  takeByte = λ s b m buffer l k p q. took-once (givenByte s b m buffer) l k p q;
+  takeFrame = λ s frame m buffer l k p q. took-once (givenFrame s frame m buffer) l k p q;
 }

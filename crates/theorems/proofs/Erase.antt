@@ -8,7 +8,7 @@ use lib.Dec.{T, T-not}
 use Rattle.words.specs.Choice.{if_then_else_}
 use Rattle.words.specs.Lists.{any, all}
 use Rattle.board.specs.Quantities.{isSector}
-use Rattle.board.specs.Usd.{writeProtected}
+use Rattle.board.specs.View.{writeProtected}
 use Rattle.words.proofs.Tests.{both-left, both-right}
 use Rattle.memories.specs.Memories.{Memories}
 use Rattle.memories.specs.Effects.{effect}
@@ -22,7 +22,7 @@ use Rattle.command.specs.declared.Next.the-variants.{Stay, Reset, Gather, GoIdl
 use Rattle.command.specs.declared.Reply.the-variants.{Silence}
 use Rattle.boot.specs.Session.{idle, after, progress, gathered}
 use Rattle.boot.specs.Causes.{accepts}
-use Rattle.boot.specs.Calls.{done, State, Input, carrierOf, brings, causeFor, decide, perform, refused, call, run}
+use Rattle.boot.specs.Calls.{done, State, Input, carrierOf, brings, viewIn, causeFor, decide, perform, refused, call, run}
 use Rattle.carriers.specs.declared.Carrier.{Carrier}
 use Rattle.carriers.specs.declared.Carrier.the-variants.{None, Uart, Can, Running}
 use Rattle.boot.specs.declared.Cause.{Cause}
@@ -104,13 +104,13 @@ module _ (i : Input) (p : State) (c : Cause) (d : Decision) (f : Holds Honest d)
 refused-call : (i : Input) (p : State) → T (isRefused i p) → call i p .state .memories ≡ p .memories
 unfolding done call
 refused-call i p k =
-    refused-leaves i p (causeFor i p) (decide i (p .session) (p .memories .usd)) (decide-honest i (p .session) (p .memories .usd))
+    refused-leaves i p (causeFor i p) (decide i (p .session) (viewIn p)) (decide-honest i (p .session) (viewIn p))
     (accepts (causeFor i p)) k
 
 erase-call : (i : Input) (p : State) → T (inErase (call i p .state .session)) → call i p .state .memories ≡ p .memories
 unfolding call
 erase-call i p k =
-    erase-leaves i p (causeFor i p) (decide i (p .session) (p .memories .usd)) (decide-honest i (p .session) (p .memories .usd))
+    erase-leaves i p (causeFor i p) (decide i (p .session) (viewIn p)) (decide-honest i (p .session) (viewIn p))
     (accepts (causeFor i p)) k
 
 erase-run : (is : List Input) (p : State) → T (erasePending is p) → run is p .memories ≡ p .memories
@@ -122,17 +122,17 @@ erase-run (i ∷ is) p k =
 
 -- a list that is accepted
 accepted-list : (i : Input) (p : State) → T (inEraseList (p .session)) → T (acks (done i p .reply))
-    → T (all isSector (toErase i (p .session))) × T (not (any (writeProtected (p .memories .usd)) (toErase i (p .session))))
+    → T (all isSector (toErase i (p .session))) × T (not (any (writeProtected (viewIn p)) (toErase i (p .session))))
 unfolding done if_gives_else_
 accepted-list i p h a =
     let ks = toErase i (p .session) in
-    let g : T (erasable (p .memories .usd) ks) = decide-erase i (p .session) (p .memories .usd) h (by-test (accepts (causeFor i p)) a) in (
-      both-left (all isSector ks) (not (any (writeProtected (p .memories .usd)) ks)) g,
-      both-right (all isSector ks) (not (any (writeProtected (p .memories .usd)) ks)) g,
+    let g : T (erasable (viewIn p) ks) = decide-erase i (p .session) (viewIn p) h (by-test (accepts (causeFor i p)) a) in (
+      both-left (all isSector ks) (not (any (writeProtected (viewIn p)) ks)) g,
+      both-right (all isSector ks) (not (any (writeProtected (viewIn p)) ks)) g,
     )
   where
-    by-test : (t : Bool) → T (acks ((if t gives decide i (p .session) (p .memories .usd) else answer Silence Stay) .reply))
-        → T (acks (decide i (p .session) (p .memories .usd) .reply))
+    by-test : (t : Bool) → T (acks ((if t gives decide i (p .session) (viewIn p) else answer Silence Stay) .reply))
+        → T (acks (decide i (p .session) (viewIn p) .reply))
     by-test true a = a
     by-test false a = absurd a
 

@@ -7,6 +7,7 @@ use native.Mathlib.Omega.{arith}
 use lib.Dec.{T, not-T, eqb, eqb→eq}
 use Rattle.words.specs.Choice.{if_then_else_}
 use Rattle.words.proofs.Tests.{both-left}
+use Rattle.board.specs.declared.View.{View}
 use Rattle.memories.specs.Memories.{proper}
 use Rattle.command.specs.Decision.{answer}
 use Rattle.command.specs.declared.Decision.{Decision}
@@ -64,10 +65,10 @@ connected-holds P c s calls f g h =
 
 -- ---- what is decided in a step of one carrier or the other
 
-module _ (s : Session) (usd : List ℕ) (m n : ℕ) (h : T ((on Uart s && eqb (s .step) m) || (on Can s && eqb (s .step) n))) where
+module _ (s : Session) (view : View) (m n : ℕ) (h : T ((on Uart s && eqb (s .step) m) || (on Can s && eqb (s .step) n))) where
   -- on a byte: what the step on UART hears, or nothing
   pub byte-in : (P : Decision → Type 0) (room b : ℕ) → Holds P (answer Silence Stay)
-      → (T (on Uart s) → Holds P (UC.heard (U.stepOf m) (progress s) usd b)) → Holds P (decide (Byte room b) s usd)
+      → (T (on Uart s) → Holds P (UC.heard (U.stepOf m) (progress s) view b)) → Holds P (decide (Byte room b) s view)
   unfolding decide decideByte
   byte-in P room b q f =
       connected-holds P Uart s _ (λ o. rw (step-on Uart Can s m n (λ e. omega arith) h o) (f o))
@@ -75,7 +76,7 @@ module _ (s : Session) (usd : List ℕ) (m n : ℕ) (h : T ((on Uart s && eqb (s
 
   -- on a frame: what the step on CAN hears, or nothing
   pub frame-in : (P : Decision → Type 0) (room : ℕ) (l : List ℕ) → Holds P (answer Silence Stay)
-      → (T (not (on Uart s)) → Holds P (CC.heard (C.stepOf n) (progress s) usd (frameIn l))) → Holds P (decide (Framed room l) s usd)
+      → (T (not (on Uart s)) → Holds P (CC.heard (C.stepOf n) (progress s) view (frameIn l))) → Holds P (decide (Framed room l) s view)
   unfolding decide decideFrame
   frame-in P room l q f =
       connected-holds P Can s _

@@ -1,6 +1,9 @@
 pub mod Talk
 pub mod Locked
 pub mod Secrecy
+pub mod Runs
+pub mod Made
+pub mod Opening
 pub mod Honest
 pub mod Erase
 pub mod Read

@@ -9,8 +9,9 @@ use Rattle.words.specs.Choice.{if_then_else_}
 use Rattle.words.specs.Lists.{any, all}
 use Rattle.words.proofs.Tests.{holds-true, fails-false}
 use Rattle.board.specs.Quantities.{isSector, firstIndexed, firstNumbered}
-use Rattle.board.specs.Usd.{writeProtected}
+use Rattle.board.specs.View.{writeProtected}
 use Rattle.board.specs.declared.Sector.{Sector}
+use Rattle.board.specs.declared.View.{View}
 use Rattle.memories.specs.declared.Change.{Change}
 use Rattle.memories.specs.declared.Change.the-variants.{EraseSectors, ProtectOnly}
 use Rattle.command.specs.Decision.{alter, judged}
@@ -76,8 +77,8 @@ protecting-accepts staged x = judged-accepts (ProtectOnly x) good _ _ (by-test g
     by-test true e = tt
     by-test false e = absurd (no-fine BadSector e)
 
-module _ (p : Progress) (usd : List ℕ) where
-  uart-protect : (b : ℕ) → Holds (Protecting (stagedWith p (b ∷ [])) (U.countIn (p .expected))) (UC.heard US.Step.ProtectList p usd b)
+module _ (p : Progress) (view : View) where
+  uart-protect : (b : ℕ) → Holds (Protecting (stagedWith p (b ∷ [])) (U.countIn (p .expected))) (UC.heard US.Step.ProtectList p view b)
   unfolding UC.heard UC.complete
   uart-protect b =
       let s = stagedWith p (b ∷ []) in
@@ -85,7 +86,7 @@ module _ (p : Progress) (usd : List ℕ) where
       let P = Protecting s x in
       either P _ (unprotecting s x tt) (either P _ (protecting-accepts s x) (unprotecting s x tt))
 
-  can-protect : (f : Frame) → Holds (Protecting (stagedWith p (carried f)) (p .expected)) (CC.heard CS.Step.ProtectList p usd f)
+  can-protect : (f : Frame) → Holds (Protecting (stagedWith p (carried f)) (p .expected)) (CC.heard CS.Step.ProtectList p view f)
   unfolding CC.heard CC.decided CC.gathering CC.unlessExtra
   can-protect f =
       let s = stagedWith p (carried f) in
@@ -93,32 +94,32 @@ module _ (p : Progress) (usd : List ℕ) where
       let P = Protecting s x in
       either P _ (unprotecting s x tt) (either P _ (unprotecting s x tt) (either P _ (unprotecting s x tt) (protecting-accepts s x)))
 
-pub decide-protect : (i : Input) (s : Session) (usd : List ℕ) → T (inProtect s)
-    → Holds (Protecting (stagedAfter i s) (countOfBytes s)) (decide i s usd)
+pub decide-protect : (i : Input) (s : Session) (view : View) → T (inProtect s)
+    → Holds (Protecting (stagedAfter i s) (countOfBytes s)) (decide i s view)
 unfolding decide
-decide-protect Power s usd h = unprotecting (stagedAfter Power s) (countOfBytes s) tt
-decide-protect (Byte room b) s usd h =
-    byte-in s usd 12 3 h (Protecting (stagedAfter (Byte room b) s) (countOfBytes s)) room b (unprotecting (stagedAfter (Byte room b) s) (countOfBytes s) tt)
-    (λ o. rw (holds-true (on Uart s) o) (uart-protect (progress s) usd b))
-decide-protect (Framed room l) s usd h =
-    frame-in s usd 12 3 h (Protecting (stagedAfter (Framed room l) s) (countOfBytes s)) room l (unprotecting (stagedAfter (Framed room l) s) (countOfBytes s) tt)
-    (λ o. rw (fails-false (on Uart s) o) (can-protect (progress s) usd (frameIn l)))
+decide-protect Power s view h = unprotecting (stagedAfter Power s) (countOfBytes s) tt
+decide-protect (Byte room b) s view h =
+    byte-in s view 12 3 h (Protecting (stagedAfter (Byte room b) s) (countOfBytes s)) room b (unprotecting (stagedAfter (Byte room b) s) (countOfBytes s) tt)
+    (λ o. rw (holds-true (on Uart s) o) (uart-protect (progress s) view b))
+decide-protect (Framed room l) s view h =
+    frame-in s view 12 3 h (Protecting (stagedAfter (Framed room l) s) (countOfBytes s)) room l (unprotecting (stagedAfter (Framed room l) s) (countOfBytes s) tt)
+    (λ o. rw (fails-false (on Uart s) o) (can-protect (progress s) view (frameIn l)))
 
 -- ---- numbers of an erase
 
 -- the sectors named are the board's, and none is write-protected
-abbrev pub erasable : List ℕ → List Sector → Bool
-erasable usd ks = all isSector ks && not (any (writeProtected usd) ks)
+abbrev pub erasable : View → List Sector → Bool
+erasable view ks = all isSector ks && not (any (writeProtected view) ks)
 
-abbrev Erasing : List ℕ → List ℕ → ℕ → Decision → Type 0
-Erasing usd staged x = Accepts (EraseSectors x) (erasable usd (firstNumbered x staged))
+abbrev Erasing : View → List ℕ → ℕ → Decision → Type 0
+Erasing view staged x = Accepts (EraseSectors x) (erasable view (firstNumbered x staged))
 
-unerasing : (usd staged : List ℕ) (x : ℕ) {d : Decision} → T (not (acks (d .reply))) → Holds (Erasing usd staged x) d
-unerasing usd staged x n = silent (EraseSectors x) (erasable usd (firstNumbered x staged)) n
+unerasing : (view : View) (staged : List ℕ) (x : ℕ) {d : Decision} → T (not (acks (d .reply))) → Holds (Erasing view staged x) d
+unerasing view staged x n = silent (EraseSectors x) (erasable view (firstNumbered x staged)) n
 
-erasing-accepts : (usd staged : List ℕ) (x : ℕ) → Holds (Erasing usd staged x) (erasing usd staged x)
+erasing-accepts : (view : View) (staged : List ℕ) (x : ℕ) → Holds (Erasing view staged x) (erasing view staged x)
 unfolding erasing eraseVerdict
-erasing-accepts usd staged x = judged-accepts (EraseSectors x) (erasable usd ks) _ _ (by-tests (all isSector ks) (any (writeProtected usd) ks))
+erasing-accepts view staged x = judged-accepts (EraseSectors x) (erasable view ks) _ _ (by-tests (all isSector ks) (any (writeProtected view) ks))
   where
     ks : List Sector
     ks = firstNumbered x staged
@@ -128,29 +129,29 @@ erasing-accepts usd staged x = judged-accepts (EraseSectors x) (erasable usd ks)
     by-tests true false e = tt
     by-tests false u e = absurd (no-fine BadSector e)
 
-module _ (p : Progress) (usd : List ℕ) where
-  uart-erase : (b : ℕ) → Holds (Erasing usd (stagedWith p (b ∷ [])) (U.numbersIn (p .expected))) (UC.heard US.Step.EraseList p usd b)
+module _ (p : Progress) (view : View) where
+  uart-erase : (b : ℕ) → Holds (Erasing view (stagedWith p (b ∷ [])) (U.numbersIn (p .expected))) (UC.heard US.Step.EraseList p view b)
   unfolding UC.heard UC.complete
   uart-erase b =
       let s = stagedWith p (b ∷ []) in
       let x = U.numbersIn (p .expected) in
-      let P = Erasing usd s x in
-      either P _ (unerasing usd s x tt) (either P _ (erasing-accepts usd s x) (unerasing usd s x tt))
+      let P = Erasing view s x in
+      either P _ (unerasing view s x tt) (either P _ (erasing-accepts view s x) (unerasing view s x tt))
 
-  can-erase : (f : Frame) → Holds (Erasing usd (stagedWith p (carried f)) (C.numbersIn (p .expected))) (CC.heard CS.Step.EraseList p usd f)
+  can-erase : (f : Frame) → Holds (Erasing view (stagedWith p (carried f)) (C.numbersIn (p .expected))) (CC.heard CS.Step.EraseList p view f)
   unfolding CC.heard CC.decided CC.gathering CC.unlessExtra
   can-erase f =
       let s = stagedWith p (carried f) in
       let x = C.numbersIn (p .expected) in
-      let P = Erasing usd s x in
-      either P _ (unerasing usd s x tt) (either P _ (unerasing usd s x tt) (either P _ (unerasing usd s x tt) (erasing-accepts usd s x)))
+      let P = Erasing view s x in
+      either P _ (unerasing view s x tt) (either P _ (unerasing view s x tt) (either P _ (unerasing view s x tt) (erasing-accepts view s x)))
 
-pub decide-erase : (i : Input) (s : Session) (usd : List ℕ) → T (inEraseList s) → T (acks (decide i s usd .reply)) → T (erasable usd (toErase i s))
+pub decide-erase : (i : Input) (s : Session) (view : View) → T (inEraseList s) → T (acks (decide i s view .reply)) → T (erasable view (toErase i s))
 unfolding decide
-decide-erase Power s usd h a = absurd a
-decide-erase (Byte room b) s usd h a =
-    byte-in s usd 10 2 h (λ d. T (acks (d .reply)) → T (erasable usd (toErase (Byte room b) s))) room b (record { holds = λ n. absurd n })
-    (λ o. rw (holds-true (on Uart s) o) (record { holds = λ n. uart-erase (progress s) usd b .holds n .1 })) .holds a
-decide-erase (Framed room l) s usd h a =
-    frame-in s usd 10 2 h (λ d. T (acks (d .reply)) → T (erasable usd (toErase (Framed room l) s))) room l (record { holds = λ n. absurd n })
-    (λ o. rw (fails-false (on Uart s) o) (record { holds = λ n. can-erase (progress s) usd (frameIn l) .holds n .1 })) .holds a
+decide-erase Power s view h a = absurd a
+decide-erase (Byte room b) s view h a =
+    byte-in s view 10 2 h (λ d. T (acks (d .reply)) → T (erasable view (toErase (Byte room b) s))) room b (record { holds = λ n. absurd n })
+    (λ o. rw (holds-true (on Uart s) o) (record { holds = λ n. uart-erase (progress s) view b .holds n .1 })) .holds a
+decide-erase (Framed room l) s view h a =
+    frame-in s view 10 2 h (λ d. T (acks (d .reply)) → T (erasable view (toErase (Framed room l) s))) room l (record { holds = λ n. absurd n })
+    (λ o. rw (fails-false (on Uart s) o) (record { holds = λ n. can-erase (progress s) view (frameIn l) .holds n .1 })) .holds a

@@ -6,11 +6,11 @@ use Prim.Native.Nat.{ℕ}
 use lib.Dec.{T, eqb}
 use Rattle.words.specs.Choice.{if_then_else_}
 use Rattle.words.proofs.Tests.{both-left, both-right}
-use Rattle.board.specs.Usd.{protectionOn}
 use Rattle.constants.specs.declared.Address.{Address}
 use Rattle.board.specs.declared.Place.{Place}
 use Rattle.board.specs.declared.Place.the-variants.{In, Nowhere}
 use Rattle.board.specs.declared.Region.the-variants.{Flash, Sram, Usd}
+use Rattle.board.specs.declared.View.{View}
 use Rattle.memories.specs.declared.Change.{Change}
 use Rattle.memories.specs.declared.Change.the-variants.{Nothing, Write, EraseAll, EraseSectors, ProtectOnly, Release, Lock, Unlock}
 use Rattle.command.specs.Commands.{protected}
@@ -171,68 +171,68 @@ uart-obeyed FirmwareCrc h = told Uart tt tt
 uart-obeyed ResetDevice h = told Uart tt tt
 uart-obeyed Speed h = told Uart tt tt
 
-uart-commanded : (usd : List ℕ) → T (protectionOn usd) → (k : Lookup) → Holds (Discreet Uart) (UC.commanded usd k)
+uart-commanded : (view : View) → T (view .locked) → (k : Lookup) → Holds (Discreet Uart) (UC.commanded view k)
 unfolding UC.commanded
-uart-commanded usd l (Known k) = unless-locked (Discreet Uart) usd k l (refusal Uart) (uart-obeyed k)
-uart-commanded usd l Unknown = told Uart tt tt
+uart-commanded view l (Known k) = unless-locked (Discreet Uart) view k l (refusal Uart) (uart-obeyed k)
+uart-commanded view l Unknown = told Uart tt tt
 
-uart-complete : (s : US.Step) → T (calmOnUart s) → (e a : ℕ) (bytes usd : List ℕ) → T (protectionOn usd)
-    → Holds (Discreet Uart) (UC.complete s e a bytes usd)
+uart-complete : (s : US.Step) → T (calmOnUart s) → (e a : ℕ) (bytes : List ℕ) (view : View) → T (view .locked)
+    → Holds (Discreet Uart) (UC.complete s e a bytes view)
 unfolding UC.complete UC.addressed UC.keptIf
-uart-complete US.Step.Idle h e a bytes usd l = either (Discreet Uart) _ (uart-commanded usd l _) (refusal Uart _)
-uart-complete US.Step.ReadAddress h e a bytes usd l = absurd h
-uart-complete US.Step.JumpAddress h e a bytes usd l = absurd h
-uart-complete US.Step.WriteAddress h e a bytes usd l = absurd h
-uart-complete US.Step.CrcAddress h e a bytes usd l =
+uart-complete US.Step.Idle h e a bytes view l = either (Discreet Uart) _ (uart-commanded view l _) (refusal Uart _)
+uart-complete US.Step.ReadAddress h e a bytes view l = absurd h
+uart-complete US.Step.JumpAddress h e a bytes view l = absurd h
+uart-complete US.Step.WriteAddress h e a bytes view l = absurd h
+uart-complete US.Step.CrcAddress h e a bytes view l =
     either (Discreet Uart) _ (either (Discreet Uart) _ (told Uart tt tt) (refusal Uart _)) (refusal Uart _)
-uart-complete US.Step.ReadLength h e a bytes usd l = absurd h
-uart-complete US.Step.WriteLength h e a bytes usd l = absurd h
-uart-complete US.Step.WriteData h e a bytes usd l = absurd h
-uart-complete US.Step.EraseSelector h e a bytes usd l = absurd h
-uart-complete US.Step.SpecialCheck h e a bytes usd l = absurd h
-uart-complete US.Step.EraseList h e a bytes usd l = absurd h
-uart-complete US.Step.ProtectLength h e a bytes usd l = absurd h
-uart-complete US.Step.ProtectList h e a bytes usd l = absurd h
-uart-complete US.Step.CrcCount h e a bytes usd l =
+uart-complete US.Step.ReadLength h e a bytes view l = absurd h
+uart-complete US.Step.WriteLength h e a bytes view l = absurd h
+uart-complete US.Step.WriteData h e a bytes view l = absurd h
+uart-complete US.Step.EraseSelector h e a bytes view l = absurd h
+uart-complete US.Step.SpecialCheck h e a bytes view l = absurd h
+uart-complete US.Step.EraseList h e a bytes view l = absurd h
+uart-complete US.Step.ProtectLength h e a bytes view l = absurd h
+uart-complete US.Step.ProtectList h e a bytes view l = absurd h
+uart-complete US.Step.CrcCount h e a bytes view l =
     either (Discreet Uart) _ (summing-discreet Uart _ _) (refusal Uart _)
 
-uart-heard : (s : US.Step) → T (calmOnUart s) → (p : Progress) (usd : List ℕ) (b : ℕ) → T (protectionOn usd)
-    → Holds (Discreet Uart) (UC.heard s p usd b)
+uart-heard : (s : US.Step) → T (calmOnUart s) → (p : Progress) (view : View) (b : ℕ) → T (view .locked)
+    → Holds (Discreet Uart) (UC.heard s p view b)
 unfolding UC.heard
-uart-heard s h p usd b l = either (Discreet Uart) _ (told Uart tt tt) (uart-complete s h _ _ _ usd l)
+uart-heard s h p view b l = either (Discreet Uart) _ (told Uart tt tt) (uart-complete s h _ _ _ view l)
 
 -- ---- CAN
 
-can-obeyed : (usd d : List ℕ) (k : Command) → T (not (protected k)) → Holds (Discreet Can) (CC.obeyed usd d k)
+can-obeyed : (view : View) (d : List ℕ) (k : Command) → T (not (protected k)) → Holds (Discreet Can) (CC.obeyed view d k)
 unfolding CC.obeyed
-can-obeyed usd d GetCommands h = told Can tt tt
-can-obeyed usd d GetVersion h = told Can tt tt
-can-obeyed usd d GetDeviceId h = told Can tt tt
-can-obeyed usd d ReadMemory h = absurd h
-can-obeyed usd d Jump h = absurd h
-can-obeyed usd d WriteMemory h = absurd h
-can-obeyed usd d Erase h = absurd h
-can-obeyed usd d ProgramProtect h = absurd h
-can-obeyed usd d ProgramUnprotect h = absurd h
-can-obeyed usd d AccessProtect h = absurd h
-can-obeyed usd d AccessUnprotect h = unlocking-discreet Can
-can-obeyed usd d FirmwareCrc h = summing-discreet Can _ _
-can-obeyed usd d ResetDevice h = told Can tt tt
-can-obeyed usd d Speed h = either (Discreet Can) _ (told Can tt tt) (refusal Can _)
+can-obeyed view d GetCommands h = told Can tt tt
+can-obeyed view d GetVersion h = told Can tt tt
+can-obeyed view d GetDeviceId h = told Can tt tt
+can-obeyed view d ReadMemory h = absurd h
+can-obeyed view d Jump h = absurd h
+can-obeyed view d WriteMemory h = absurd h
+can-obeyed view d Erase h = absurd h
+can-obeyed view d ProgramProtect h = absurd h
+can-obeyed view d ProgramUnprotect h = absurd h
+can-obeyed view d AccessProtect h = absurd h
+can-obeyed view d AccessUnprotect h = unlocking-discreet Can
+can-obeyed view d FirmwareCrc h = summing-discreet Can _ _
+can-obeyed view d ResetDevice h = told Can tt tt
+can-obeyed view d Speed h = either (Discreet Can) _ (told Can tt tt) (refusal Can _)
 
-can-commanded : (usd d : List ℕ) → T (protectionOn usd) → (k : Lookup) → Holds (Discreet Can) (CC.commanded usd d k)
+can-commanded : (view : View) (d : List ℕ) → T (view .locked) → (k : Lookup) → Holds (Discreet Can) (CC.commanded view d k)
 unfolding CC.commanded
-can-commanded usd d l (Known k) =
-    either (Discreet Can) _ (unless-locked (Discreet Can) usd k l (refusal Can) (can-obeyed usd d k)) (refusal Can _)
-can-commanded usd d l Unknown = told Can tt tt
+can-commanded view d l (Known k) =
+    either (Discreet Can) _ (unless-locked (Discreet Can) view k l (refusal Can) (can-obeyed view d k)) (refusal Can _)
+can-commanded view d l Unknown = told Can tt tt
 
-can-heard : (s : CS.Step) → T (calmOnCan s) → (p : Progress) (usd : List ℕ) (f : Frame) → T (protectionOn usd)
-    → Holds (Discreet Can) (CC.heard s p usd f)
+can-heard : (s : CS.Step) → T (calmOnCan s) → (p : Progress) (view : View) (f : Frame) → T (view .locked)
+    → Holds (Discreet Can) (CC.heard s p view f)
 unfolding CC.heard CC.decided
-can-heard CS.Step.Idle h p usd f l = can-commanded usd _ l _
-can-heard CS.Step.WriteData h p usd f l = absurd h
-can-heard CS.Step.EraseList h p usd f l = absurd h
-can-heard CS.Step.ProtectList h p usd f l = absurd h
+can-heard CS.Step.Idle h p view f l = can-commanded view _ l _
+can-heard CS.Step.WriteData h p view f l = absurd h
+can-heard CS.Step.EraseList h p view f l = absurd h
+can-heard CS.Step.ProtectList h p view f l = absurd h
 
 -- ---- any input
 
@@ -258,14 +258,14 @@ connected-discreet : (c : Carrier) (s : Session) (calls : Bool) {d : Decision} �
 unfolding connected
 connected-discreet c s calls f = split (Discreet c) (on c s) f (λ n. either (Discreet c) _ (told c tt tt) (told c tt tt))
 
-pub decide-discreet : (i : Input) (s : Session) (usd : List ℕ) → T (protectionOn usd) → T (calm s)
-    → Holds (Discreet (carrierOf i)) (decide i s usd)
+pub decide-discreet : (i : Input) (s : Session) (view : View) → T (view .locked) → T (calm s)
+    → Holds (Discreet (carrierOf i)) (decide i s view)
 unfolding decide decideByte decideFrame
-decide-discreet Power s usd l h = told None tt tt
-decide-discreet (Byte room b) s usd l h =
-    connected-discreet Uart s _ (λ o. uart-heard (U.stepOf (s .step)) (calm-uart s h o) (progress s) usd b l)
-decide-discreet (Framed room f) s usd l h =
-    connected-discreet Can s _ (λ o. can-heard (C.stepOf (s .step)) (calm-can s h o) (progress s) usd (frameIn f) l)
+decide-discreet Power s view l h = told None tt tt
+decide-discreet (Byte room b) s view l h =
+    connected-discreet Uart s _ (λ o. uart-heard (U.stepOf (s .step)) (calm-uart s h o) (progress s) view b l)
+decide-discreet (Framed room f) s view l h =
+    connected-discreet Can s _ (λ o. can-heard (C.stepOf (s .step)) (calm-can s h o) (progress s) view (frameIn f) l)
 
 -- ---- the session stays calm
 

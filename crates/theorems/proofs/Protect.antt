@@ -18,7 +18,7 @@ use Rattle.command.specs.Decision.{if_gives_else_, answer}
 use Rattle.command.specs.declared.Next.the-variants.{Stay}
 use Rattle.command.specs.declared.Reply.the-variants.{Silence}
 use Rattle.boot.specs.Causes.{accepts}
-use Rattle.boot.specs.Calls.{done, State, Input, Power, Byte, Framed, causeFor, decide, perform, refused, call}
+use Rattle.boot.specs.Calls.{done, State, Input, Power, Byte, Framed, viewIn, causeFor, decide, perform, refused, call}
 use Rattle.theorems.specs.Failures.{acks, stagedAfter, countOfBytes, inProtect, toProtect, Protects, ExactlyNamed}
 use Rattle.theorems.proofs.InStep.{accepted-proper}
 use Rattle.theorems.proofs.Listed.{decide-protect}
@@ -38,13 +38,13 @@ protects staged x m p t = record {
 module _ (p : State) (h : T (inProtect (p .session))) where
   -- an input, by whether it is accepted
   protects-if : (i : Input) (t : Bool) → (T t → T (proper (p .memories)))
-      → T (acks ((if t gives decide i (p .session) (p .memories .usd) else answer Silence Stay) .reply))
+      → T (acks ((if t gives decide i (p .session) (viewIn p) else answer Silence Stay) .reply))
       → Protects (toProtect i (p .session)) (p .memories)
-      ((if t then perform i p (decide i (p .session) (p .memories .usd)) else refused (causeFor i p) p) .state .memories)
+      ((if t then perform i p (decide i (p .session) (viewIn p)) else refused (causeFor i p) p) .state .memories)
   unfolding perform if_gives_else_
   protects-if i false f a = absurd a
   protects-if i true f a =
-      let e = decide-protect i (p .session) (p .memories .usd) h .holds a in
+      let e = decide-protect i (p .session) (viewIn p) h .holds a in
       subst (λ (c : Change). Protects (toProtect i (p .session)) (p .memories) (effect c (stagedAfter i (p .session)) (p .memories)))
       (sym (e .0)) (protects (stagedAfter i (p .session)) (countOfBytes (p .session)) (p .memories) (f tt) (e .1))
 

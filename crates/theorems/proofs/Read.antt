@@ -10,7 +10,7 @@ use Rattle.command.specs.declared.Decision.{Decision}
 use Rattle.command.specs.declared.Next.the-variants.{Stay}
 use Rattle.command.specs.declared.Reply.the-variants.{Silence}
 use Rattle.boot.specs.Causes.{accepts}
-use Rattle.boot.specs.Calls.{Input, Power, Byte, Framed, State, powered, causeFor, decide, commandsOf, sent, perform, refused, call, done, run}
+use Rattle.boot.specs.Calls.{Input, Power, Byte, Framed, State, powered, viewIn, causeFor, decide, commandsOf, sent, perform, refused, call, done, run}
 use Rattle.theorems.specs.Failures.{sentWith, NeverRead}
 use Rattle.theorems.specs.Secrecy.{shut}
 use Rattle.theorems.proofs.Secrecy.{Twins, twins-fresh, twins-after, shows-nothing, quiet-done}
@@ -18,7 +18,7 @@ use Rattle.theorems.proofs.Secrecy.{Twins, twins-fresh, twins-after, sh
 -- a refused call replies nothing, an accepted one what it decided
 replied : (i : Input) (p : State) → call i p .reply ≡ sentWith (p .memories) i p
 unfolding call done perform if_gives_else_ sent says
-replied i p = by-test (accepts (causeFor i p)) (decide i (p .session) (p .memories .usd))
+replied i p = by-test (accepts (causeFor i p)) (decide i (p .session) (viewIn p))
   where
     silent : (j : Input) → [] ≡ sent j (p .session) (says (commandsOf j) Silence (p .memories))
     silent Power = refl
@@ -34,8 +34,8 @@ pub never-read : NeverRead
 never-read m pm l = record {
   own = λ is i. replied i (run is (powered m));
   never = λ is i k. quiet-done i (run is (powered m)) (run is (powered m)) (after is k);
-  blind = λ is i k. shows-nothing i (run is (powered m) .session) (done i (run is (powered m)) .reply)
-      (quiet-done i (run is (powered m)) (run is (powered m)) (after is k));
+  blind = λ is i k x y. shows-nothing i (run is (powered m) .session) (done i (run is (powered m)) .reply)
+      (quiet-done i (run is (powered m)) (run is (powered m)) (after is k)) x y .shown;
 }
   where
     after : (is : List Input) → T (shut is (powered m)) → Twins (run is (powered m)) (run is (powered m))

@@ -4,9 +4,11 @@ use mathlib.Core.Bool.{Bool, true, false, not}
 use mathlib.Core.List.{List, [], _∷_}
 use Prim.Native.Nat.{ℕ}
 use lib.Dec.{T, leb}
+use lib.ListN.{length}
 use Rattle.words.specs.Choice.{if_then_else_}
 use Rattle.words.proofs.Tests.{both-left, both-right, both-hold, chosen}
 use Rattle.board.specs.Usd.{protectionOn}
+use Rattle.board.specs.View.{viewOf}
 use Rattle.memories.specs.Memories.{Memories, proper}
 use Rattle.memories.specs.Effects.{effect, erasedAll, wiped}
 use Rattle.memories.specs.declared.Change.{Change}
@@ -22,33 +24,56 @@ use Rattle.frames.specs.Frames.{classic, isFrame}
 use Rattle.uart.specs.Conversation.{uartRoom}
 use Rattle.can.specs.Conversation.{canRoom}
 use Rattle.boot.specs.Session.{after, progress, gathered}
-use Rattle.boot.specs.Causes.{causeOf, accepts}
-use Rattle.boot.specs.Calls.{done, State, powered, Input, Power, Byte, Framed, Outcome, carrierOf, brings, commandsOf, causeFor, decide, sent, perform, refused, call, outcomes, run}
+use Rattle.boot.specs.Causes.{causeNo, causeOf, accepts}
+use Rattle.boot.specs.Calls.{done, State, powered, Input, Power, Byte, Framed, Outcome, carrierOf, brings, commandsOf, viewIn, causeFor, decide, sent, perform, refused, call, run}
 use Rattle.boot.specs.declared.Cause.{Cause}
 use Rattle.boot.specs.declared.Cause.the-variants.{Accepted}
 use Rattle.boot.specs.declared.Session.{Session}
 use Rattle.theorems.specs.Failures.{reads}
-use Rattle.theorems.specs.Secrecy.{unlocks, opens, shut, veiled, Seen, seen, seenOf, Alike, Demand3}
+use Rattle.theorems.specs.Secrecy.{unlocks, opens, shut, Call, input, inputs, lent, filled, leftBy, leavesOf, veiled, Seen, seenOf, Alike, Demand3}
 use Rattle.theorems.proofs.Locked.{calm, harmless, Discreet, decide-discreet, after-calm, gathered-calm}
 
 -- ---- what a discreet act shows of the memories, and does to them
 
--- a reply that does not read is the same whatever the memories hold, but for a CRC value
+-- two replies are alike, but for a CRC value: by themselves, in their length, and in a buffer that they are left in
+pub record Hides (i : Input) (r : Reply) (x y : List ℕ) : Type 0 where
+  pub shown : veiled i r x ≡ veiled i r y
+  pub long : length x ≡ length y
+  pub left : (before : List ℕ) → veiled i r (filled before x) ≡ veiled i r (filled before y)
+
+itself : {i : Input} {r : Reply} {x : List ℕ} → Hides i r x x
+itself = record { shown = refl; long = refl; left = λ before. refl }
+
+-- so is a reply that does not read, whatever the memories hold
 pub shows-nothing : (i : Input) (s : Session) (r : Reply) → T (not (reads r)) → (m n : Memories)
-    → veiled i r (sent i s (says (commandsOf i) r m)) ≡ veiled i r (sent i s (says (commandsOf i) r n))
+    → Hides i r (sent i s (says (commandsOf i) r m)) (sent i s (says (commandsOf i) r n))
 unfolding says sent
-shows-nothing i s Silence h m n = refl
-shows-nothing i s Ack h m n = refl
-shows-nothing i s AckAck h m n = refl
-shows-nothing i s (Nack w) h m n = refl
-shows-nothing i s (AckNack w) h m n = refl
-shows-nothing i s Commands h m n = refl
-shows-nothing i s Version h m n = refl
-shows-nothing i s DeviceId h m n = refl
+shows-nothing i s Silence h m n = itself
+shows-nothing i s Ack h m n = itself
+shows-nothing i s AckAck h m n = itself
+shows-nothing i s (Nack w) h m n = itself
+shows-nothing i s (AckNack w) h m n = itself
+shows-nothing i s Commands h m n = itself
+shows-nothing i s Version h m n = itself
+shows-nothing i s DeviceId h m n = itself
 shows-nothing i s (Data r at x) h m n = absurd h
-shows-nothing Power s (Crc at x) h m n = refl
-shows-nothing (Byte room b) s (Crc at x) h m n = refl
-shows-nothing (Framed room f) s (Crc at x) h m n = refl
+shows-nothing Power s (Crc at x) h m n = itself
+shows-nothing (Byte room b) s (Crc at x) h m n = record { shown = refl; long = refl; left = λ before. refl }
+shows-nothing (Framed room f) s (Crc at x) h m n = record { shown = refl; long = refl; left = λ before. refl }
+
+-- a fixed reply is the same whatever the memories hold
+says-alike : (k : List ℕ) (r : Reply) → T (fixed r) → (m n : Memories) → says k r m ≡ says k r n
+unfolding says
+says-alike k Silence h m n = refl
+says-alike k Ack h m n = refl
+says-alike k AckAck h m n = refl
+says-alike k (Nack w) h m n = refl
+says-alike k (AckNack w) h m n = refl
+says-alike k Commands h m n = refl
+says-alike k Version h m n = refl
+says-alike k DeviceId h m n = refl
+says-alike k (Data r at x) h m n = absurd h
+says-alike k (Crc at x) h m n = absurd h
 
 -- a harmless change that is no Access Unprotect is none
 changes-nothing : (c : Change) → T (harmless c) → T (not (unlocks c)) → (staged : List ℕ) (m : Memories) → effect c staged m ≡ m
@@ -78,20 +103,6 @@ wipes-alike Unlock w staged m n l e =
     ∙ ap (λ (u : List ℕ). wiped (record { flash = []; sram = []; usd = u })) e
     ∙ sym (chosen (protectionOn (n .usd)) (wiped n) n (subst (λ (u : List ℕ). T (protectionOn u)) e l))
 
--- a fixed reply is the same whatever the memories hold
-says-alike : (k : List ℕ) (r : Reply) → T (fixed r) → (m n : Memories) → says k r m ≡ says k r n
-unfolding says
-says-alike k Silence h m n = refl
-says-alike k Ack h m n = refl
-says-alike k AckAck h m n = refl
-says-alike k (Nack w) h m n = refl
-says-alike k (AckNack w) h m n = refl
-says-alike k Commands h m n = refl
-says-alike k Version h m n = refl
-says-alike k DeviceId h m n = refl
-says-alike k (Data r at x) h m n = absurd h
-says-alike k (Crc at x) h m n = absurd h
-
 -- ---- two boards
 
 -- alike in session and user system data, locked and calm, with memories of their proper sizes
@@ -116,8 +127,8 @@ module _ (i : Input) (p q : State) (t : Twins p q) where
       by-input (Byte room b) = ap₂ (λ (k : Bool) (s : Session). causeOf k (leb uartRoom room) true s) memories-alike (t .session)
       by-input (Framed room f) = ap₂ (λ (k : Bool) (s : Session). causeOf k (leb canRoom room) (isFrame classic f) s) memories-alike (t .session)
 
-  decisions-alike : decide i (p .session) (p .memories .usd) ≡ decide i (q .session) (q .memories .usd)
-  decisions-alike = ap₂ (decide i) (t .session) (t .usd)
+  decisions-alike : decide i (p .session) (viewIn p) ≡ decide i (q .session) (viewIn q)
+  decisions-alike = ap₂ (decide i) (t .session) (ap viewOf (t .usd))
 
 -- a call, what it does and what is seen of it, by whether it is accepted, its cause and its decision
 abbrev callBy : Input → State → Bool → Cause → Decision → Outcome
@@ -126,12 +137,13 @@ callBy i p t c d = if t then perform i p d else refused c p
 abbrev doneBy : Bool → Decision → Decision
 doneBy t d = if t gives d else answer Silence Stay
 
-abbrev seenBy : Input → State → Bool → Cause → Decision → Seen
-seenBy i p t c d = record {
-  cause = callBy i p t c d .cause;
-  reply = veiled i (doneBy t d .reply) (callBy i p t c d .reply);
-  session = callBy i p t c d .state .session;
-  usd = callBy i p t c d .state .memories .usd;
+abbrev seenBy : Input → List ℕ → Outcome → Decision → Seen
+seenBy i before o e = record {
+  number = causeNo (o .cause);
+  length = length (o .reply);
+  session = o .state .session;
+  usd = o .state .memories .usd;
+  buffer = veiled i (e .reply) (filled before (o .reply));
 }
 
 -- ---- one call
@@ -150,14 +162,21 @@ module _ (i : Input) (c : Cause) (d : Decision) (f : Discreet (carrierOf i) d) w
   stays-calm p false h = h
 
   module _ (p q : State) (w : Twins p q) where
-    -- the reply is alike, but for a CRC value
-    replies-alike : (t : Bool)
-        → veiled i (doneBy t d .reply) (callBy i p t c d .reply) ≡ veiled i (doneBy t d .reply) (callBy i q t c d .reply)
+    -- the reply is as long, and the buffer alike, but for a CRC value
+    lengths-alike : (t : Bool) → length (callBy i p t c d .reply) ≡ length (callBy i q t c d .reply)
+    unfolding perform
+    lengths-alike true =
+        shows-nothing i (p .session) (d .reply) (f .quiet) (p .memories) (q .memories) .long
+        ∙ ap (λ (s : Session). length (sent i s (says (commandsOf i) (d .reply) (q .memories)))) (w .session)
+    lengths-alike false = refl
+
+    buffers-alike : (t : Bool) (before : List ℕ) → veiled i (doneBy t d .reply) (filled before (callBy i p t c d .reply))
+        ≡ veiled i (doneBy t d .reply) (filled before (callBy i q t c d .reply))
     unfolding perform if_gives_else_
-    replies-alike true =
-        shows-nothing i (p .session) (d .reply) (f .quiet) (p .memories) (q .memories)
-        ∙ ap (λ (s : Session). veiled i (d .reply) (sent i s (says (commandsOf i) (d .reply) (q .memories)))) (w .session)
-    replies-alike false = refl
+    buffers-alike true before =
+        shows-nothing i (p .session) (d .reply) (f .quiet) (p .memories) (q .memories) .left before
+        ∙ ap (λ (s : Session). veiled i (d .reply) (filled before (sent i s (says (commandsOf i) (d .reply) (q .memories))))) (w .session)
+    buffers-alike false before = refl
 
     causes-of-alike : (t : Bool) → callBy i p t c d .cause ≡ callBy i q t c d .cause
     unfolding perform
@@ -170,12 +189,14 @@ module _ (i : Input) (c : Cause) (d : Decision) (f : Discreet (carrierOf i) d) w
     sessions-alike false = w .session
 
     -- all that is seen is alike, unless it opens
-    seen-alike : (t : Bool) → T (not (unlocks (doneBy t d .change))) → seenBy i p t c d ≡ seenBy i q t c d
-    seen-alike t k = λ j. record {
-      cause = causes-of-alike t j;
-      reply = replies-alike t j;
+    seen-alike : (t : Bool) (before : List ℕ) → T (not (unlocks (doneBy t d .change)))
+        → seenBy i before (callBy i p t c d) (doneBy t d) ≡ seenBy i before (callBy i q t c d) (doneBy t d)
+    seen-alike t before k = λ j. record {
+      number = causeNo (causes-of-alike t j);
+      length = lengths-alike t j;
       session = sessions-alike t j;
       usd = (ap (λ (m : Memories). m .usd) (keeps p t k) ∙ w .usd ∙ sym (ap (λ (m : Memories). m .usd) (keeps q t k))) j;
+      buffer = buffers-alike t before j;
     }
 
     -- where it opens, everything is alike
@@ -195,7 +216,7 @@ module _ (i : Input) (c : Cause) (d : Decision) (f : Discreet (carrierOf i) d) w
 
 -- what one input that does not open leaves of two boards
 record One (i : Input) (p q : State) : Type 0 where
-  seen : seen i p ≡ seen i q
+  seen : (before : List ℕ) → seenBy i before (call i p) (done i p) ≡ seenBy i before (call i q) (done i q)
   first : call i p .state .memories ≡ p .memories
   second : call i q .state .memories ≡ q .memories
   twins : Twins (call i p .state) (call i q .state)
@@ -205,13 +226,14 @@ module _ (i : Input) (p q : State) (w : Twins p q) where
   t = accepts (causeFor i p)
 
   d : Decision
-  d = decide i (p .session) (p .memories .usd)
+  d = decide i (p .session) (viewIn p)
 
-  f : Discreet (carrierOf i) (decide i (p .session) (p .memories .usd))
-  f = decide-discreet i (p .session) (p .memories .usd) (w .locked) (w .calm) .holds
+  f : Discreet (carrierOf i) (decide i (p .session) (viewIn p))
+  unfolding viewOf
+  f = decide-discreet i (p .session) (viewIn p) (w .locked) (w .calm) .holds
 
   -- the second board's cause and decision are the first one's
-  second-call : call i q ≡ callBy i q (accepts (causeFor i p)) (causeFor i p) (decide i (p .session) (p .memories .usd))
+  second-call : call i q ≡ callBy i q (accepts (causeFor i p)) (causeFor i p) (decide i (p .session) (viewIn p))
   unfolding call
   second-call =
       ap₂ (λ (c : Cause) (e : Decision). callBy i q (accepts c) c e) (sym (causes-alike i p q w)) (sym (decisions-alike i p q w))
@@ -225,21 +247,15 @@ module _ (i : Input) (p q : State) (w : Twins p q) where
   unfolding done if_gives_else_
   quiet-done = by-test (accepts (causeFor i p))
     where
-      by-test : (t : Bool) → T (not (reads (doneBy t (decide i (p .session) (p .memories .usd)) .reply)))
+      by-test : (t : Bool) → T (not (reads (doneBy t (decide i (p .session) (viewIn p)) .reply)))
       by-test true = f .quiet
       by-test false = tt
 
   one : T (not (opens i p)) → One i p q
-  unfolding opens done seen call t d
+  unfolding opens done call t d
   one k = record {
-    seen =
-        seen-alike i (causeFor i p) d f p q w t k
-        ∙ ap₂ (λ (o : Outcome) (e : Decision). record {
-          cause = o .cause;
-          reply = veiled i (e .reply) (o .reply);
-          session = o .state .session;
-          usd = o .state .memories .usd;
-        }) (sym second-call) (sym second-done);
+    seen = λ before.
+        seen-alike i (causeFor i p) d f p q w t before k ∙ ap₂ (seenBy i before) (sym second-call) (sym second-done);
     first = first;
     second = second;
     twins = record {
@@ -264,15 +280,16 @@ module _ (i : Input) (p q : State) (w : Twins p q) where
 
 -- ---- a run of inputs
 
-before : (is : List Input) (p q : State) → Twins p q → T (shut is p) → Alike is p q
+before : (cs : List Call) (p q : State) → Twins p q → T (shut (inputs cs) p) → Alike cs p q
 unfolding shut seenOf run
 before [] p q w k = record { seen = refl; first = refl; second = refl }
-before (i ∷ is) p q w k =
-    let o : One i p q = one i p q w (both-left (not (opens i p)) (shut is (call i p .state)) k) in
-    let r : Alike is (call i p .state) (call i q .state) =
-    before is (call i p .state) (call i q .state) (o .twins) (both-right (not (opens i p)) (shut is (call i p .state)) k) in
+before (c ∷ cs) p q w k =
+    let o : One (input c) p q = one (input c) p q w (both-left (not (opens (input c) p)) (shut (inputs cs) (call (input c) p .state)) k) in
+    let r : Alike cs (call (input c) p .state) (call (input c) q .state) =
+    before cs (call (input c) p .state) (call (input c) q .state) (o .twins)
+    (both-right (not (opens (input c) p)) (shut (inputs cs) (call (input c) p .state)) k) in
     record {
-      seen = ap₂ {C = List Seen} (λ (x : Seen) (xs : List Seen). x ∷ xs) (o .seen) (r .seen);
+      seen = ap₂ {C = List Seen} (λ (x : Seen) (xs : List Seen). x ∷ xs) (o .seen (lent c)) (r .seen);
       first = r .first ∙ o .first;
       second = r .second ∙ o .second;
     }
@@ -284,10 +301,10 @@ twins-after (i ∷ is) p q w k =
     twins-after is (call i p .state) (call i q .state) (one i p q w (both-left (not (opens i p)) (shut is (call i p .state)) k) .twins)
     (both-right (not (opens i p)) (shut is (call i p .state)) k)
 
--- outcomes that begin with the same call are the same
-outcomes-alike : (i : Input) (js : List Input) (p q : State) → call i p ≡ call i q → outcomes (i ∷ js) p ≡ outcomes (i ∷ js) q
-unfolding outcomes
-outcomes-alike i js p q e = ap (λ (o : Outcome). o ∷ outcomes js (o .state)) e
+-- what begins with the same outcome of a call is left the same
+leaves-alike : (c : Call) (cs : List Call) (p q : State) → call (input c) p ≡ call (input c) q → leavesOf (c ∷ cs) p ≡ leavesOf (c ∷ cs) q
+unfolding leavesOf
+leaves-alike c cs p q e = ap (λ (o : Outcome). leftBy o (lent c) ∷ leavesOf cs (o .state)) e
 
 -- two boards freshly powered are alike
 pub twins-fresh : (m n : Memories) → T (proper m) → T (proper n) → m .usd ≡ n .usd → T (protectionOn (m .usd))
@@ -298,10 +315,10 @@ twins-fresh m n pm pn e l = record { session = refl; usd = e; locked = l; calm =
 -- demand 3
 pub secret : Demand3
 secret m n pm pn e l = record {
-  before = λ is k. before is (powered m) (powered n) twins k;
+  before = λ cs k. before cs (powered m) (powered n) twins k;
   decided = λ is i k. sym (second-done i (run is (powered m)) (run is (powered n)) (twins-after is (powered m) (powered n) twins k));
-  after = λ is i js k o. outcomes-alike i js (run is (powered m)) (run is (powered n))
-      (opened i (run is (powered m)) (run is (powered n)) (twins-after is (powered m) (powered n) twins k) o);
+  after = λ cs c ds k o. leaves-alike c ds (run (inputs cs) (powered m)) (run (inputs cs) (powered n))
+      (opened (input c) (run (inputs cs) (powered m)) (run (inputs cs) (powered n)) (twins-after (inputs cs) (powered m) (powered n) twins k) o);
 }
   where
     twins : Twins (powered m) (powered n)

@@ -18,6 +18,7 @@ use Rattle.board.specs.declared.Place.{Place}
 use Rattle.board.specs.declared.Place.the-variants.{In, Nowhere}
 use Rattle.board.specs.declared.Region.{Region}
 use Rattle.board.specs.declared.Region.the-variants.{Flash, Sram, Usd}
+use Rattle.board.specs.declared.View.{View}
 use Rattle.board.proofs.Regions.{Lies, lies}
 use Rattle.memories.specs.Memories.{Memories, bytesOf, proper}
 use Rattle.memories.specs.Effects.{written, effect}
@@ -36,7 +37,7 @@ use Rattle.frames.specs.Frames.{Frame, frameIn}
 use Rattle.can.specs.declared.Step as CS
 use Rattle.boot.specs.Session.{on, progress}
 use Rattle.boot.specs.Causes.{accepts}
-use Rattle.boot.specs.Calls.{State, Input, Power, Byte, Framed, brings, causeFor, decide, perform, refused, call}
+use Rattle.boot.specs.Calls.{State, Input, Power, Byte, Framed, brings, viewIn, causeFor, decide, perform, refused, call}
 use Rattle.carriers.specs.declared.Carrier.the-variants.{Uart}
 use Rattle.boot.specs.declared.Session.{Session}
 use Rattle.theorems.specs.Failures.{inWrite, countOfBytes, isNamed, byteIn, byteAt, OnlyNamedBytes}
@@ -119,31 +120,31 @@ unfolding writeAt
 write-only (In r at) x = record { holds = (refl, refl) }
 write-only Nowhere x = record { holds = tt }
 
-writing-only : (usd : List ℕ) (a x : ℕ) → Holds (Only a x) (writing usd (B.address a) x)
+writing-only : (view : View) (a x : ℕ) → Holds (Only a x) (writing view (B.address a) x)
 unfolding writing
-writing-only usd a x = judged-either (Only a x) _ (λ w. record { holds = tt }) (write-only _ x)
+writing-only view a x = judged-either (Only a x) _ (λ w. record { holds = tt }) (write-only _ x)
 
-uart-only : (p : Progress) (usd : List ℕ) (b : ℕ) → Holds (Only (p .address) (U.countIn (p .expected))) (UC.heard US.Step.WriteData p usd b)
+uart-only : (p : Progress) (view : View) (b : ℕ) → Holds (Only (p .address) (U.countIn (p .expected))) (UC.heard US.Step.WriteData p view b)
 unfolding UC.heard UC.complete
-uart-only p usd b =
+uart-only p view b =
     either (Only (p .address) (U.countIn (p .expected))) _ (record { holds = tt })
-    (either (Only (p .address) (U.countIn (p .expected))) _ (writing-only usd _ _) (record { holds = tt }))
+    (either (Only (p .address) (U.countIn (p .expected))) _ (writing-only view _ _) (record { holds = tt }))
 
-can-only : (p : Progress) (usd : List ℕ) (f : Frame) → Holds (Only (p .address) (p .expected)) (CC.heard CS.Step.WriteData p usd f)
+can-only : (p : Progress) (view : View) (f : Frame) → Holds (Only (p .address) (p .expected)) (CC.heard CS.Step.WriteData p view f)
 unfolding CC.heard CC.decided CC.gathering
-can-only p usd f =
+can-only p view f =
     either (Only (p .address) (p .expected)) _ (record { holds = tt })
-    (either (Only (p .address) (p .expected)) _ (record { holds = tt }) (writing-only usd _ _))
+    (either (Only (p .address) (p .expected)) _ (record { holds = tt }) (writing-only view _ _))
 
-decide-only : (i : Input) (s : Session) (usd : List ℕ) → T (inWrite s) → Holds (Only (s .address) (countOfBytes s)) (decide i s usd)
+decide-only : (i : Input) (s : Session) (view : View) → T (inWrite s) → Holds (Only (s .address) (countOfBytes s)) (decide i s view)
 unfolding decide
-decide-only Power s usd h = record { holds = tt }
-decide-only (Byte room b) s usd h =
-    byte-in s usd 7 1 h (Only (s .address) (countOfBytes s)) room b (record { holds = tt })
-    (λ o. rw (holds-true (on Uart s) o) (uart-only (progress s) usd b))
-decide-only (Framed room l) s usd h =
-    frame-in s usd 7 1 h (Only (s .address) (countOfBytes s)) room l (record { holds = tt })
-    (λ o. rw (fails-false (on Uart s) o) (can-only (progress s) usd (frameIn l)))
+decide-only Power s view h = record { holds = tt }
+decide-only (Byte room b) s view h =
+    byte-in s view 7 1 h (Only (s .address) (countOfBytes s)) room b (record { holds = tt })
+    (λ o. rw (holds-true (on Uart s) o) (uart-only (progress s) view b))
+decide-only (Framed room l) s view h =
+    frame-in s view 7 1 h (Only (s .address) (countOfBytes s)) room l (record { holds = tt })
+    (λ o. rw (fails-false (on Uart s) o) (can-only (progress s) view (frameIn l)))
 
 -- ---- any call
 
@@ -163,12 +164,12 @@ only-keeps Unlock from count w staged m t a n = absurd w
 module _ (p : State) (h : T (inWrite (p .session))) (a : Address) (n : T (not (isNamed (p .session) a))) where
   -- an input, by whether it is accepted
   kept-if : (i : Input) (t : Bool) → (T t → T (proper (p .memories)))
-      → byteAt a ((if t then perform i p (decide i (p .session) (p .memories .usd)) else refused (causeFor i p) p) .state .memories)
+      → byteAt a ((if t then perform i p (decide i (p .session) (viewIn p)) else refused (causeFor i p) p) .state .memories)
       ≡ byteAt a (p .memories)
   unfolding perform
   kept-if i true f =
-      only-keeps (decide i (p .session) (p .memories .usd) .change) (p .session .address) (countOfBytes (p .session))
-      (decide-only i (p .session) (p .memories .usd) h .holds) (stagedWith (progress (p .session)) (brings i)) (p .memories) (f tt) a n
+      only-keeps (decide i (p .session) (viewIn p) .change) (p .session .address) (countOfBytes (p .session))
+      (decide-only i (p .session) (viewIn p) h .holds) (stagedWith (progress (p .session)) (brings i)) (p .memories) (f tt) a n
   kept-if i false f = refl
 
   kept : (i : Input) → byteAt a (call i p .state .memories) ≡ byteAt a (p .memories)

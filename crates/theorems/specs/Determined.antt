@@ -2,12 +2,13 @@
 use Prim.Native.Nat.{ℕ}
 use mathlib.Core.Path.{_≡_}
 use mathlib.Core.List.{List}
+use Rattle.memories.specs.Memories.{Memories}
 use Rattle.boot.specs.Promise.{PoweredOn, Left, givenByte, givenFrame, Took}
 use Rattle.boot.specs.declared.Session.{Session}
 
 pub record Determined : Type 0 where
   pub powerOn : (s t : Session) → PoweredOn s → PoweredOn t → s ≡ t
-  pub takeByte : (s : Session) (b : ℕ) (flash sram usd buffer : List ℕ) (l k : Left)
-      → Took (givenByte s b flash sram usd buffer) l → Took (givenByte s b flash sram usd buffer) k → l ≡ k
-  pub takeFrame : (s : Session) (frame flash sram usd buffer : List ℕ) (l k : Left)
-      → Took (givenFrame s frame flash sram usd buffer) l → Took (givenFrame s frame flash sram usd buffer) k → l ≡ k
+  pub takeByte : (s : Session) (b : ℕ) (m : Memories) (buffer : List ℕ) (l k : Left)
+      → Took (givenByte s b m buffer) l → Took (givenByte s b m buffer) k → l ≡ k
+  pub takeFrame : (s : Session) (frame : List ℕ) (m : Memories) (buffer : List ℕ) (l k : Left)
+      → Took (givenFrame s frame m buffer) l → Took (givenFrame s frame m buffer) k → l ≡ k

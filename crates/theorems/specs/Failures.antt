@@ -4,13 +4,14 @@ use mathlib.Core.Path.{_≡_}
 use mathlib.Core.Bool.{Bool, true, false, not, _&&_, _||_}
 use mathlib.Core.List.{List, [], _∷_}
 use lib.ListN.{length, getD}
-use lib.Dec.{T, eqb}
+use lib.Dec.{T}
 use Rattle.words.specs.Lists.{any, all}
 use Rattle.words.specs.Choice.{if_then_else_}
 use Rattle.words.specs.Over.{within}
 use Rattle.board.specs.Quantities.{isSector, named, firstIndexed, firstNumbered}
 use Rattle.board.specs.Regions.{placeOf}
-use Rattle.board.specs.Usd.{besideBits, protectionOn, writeProtected}
+use Rattle.board.specs.Usd.{besideBits, protectionOn}
+use Rattle.board.specs.View.{viewOf, writeProtected}
 use Rattle.constants.specs.declared.Address.{Address}
 use Rattle.board.specs.declared.Place.{Place}
 use Rattle.board.specs.declared.Place.the-variants.{In, Nowhere}
@@ -26,17 +27,10 @@ use Rattle.can.specs.Steps as C
 use Rattle.can.specs.declared.Step as CS
 use Rattle.boot.specs.Session.{on, progress}
 use Rattle.boot.specs.Causes.{accepts}
-use Rattle.boot.specs.Calls.{State, powered, Input, brings, commandsOf, sent, causeFor, call, done, run}
-use Rattle.carriers.specs.declared.Carrier.the-variants.{Uart, Can}
+use Rattle.boot.specs.Calls.{State, powered, Input, brings, viewIn, commandsOf, sent, causeFor, call, done, run}
+use Rattle.carriers.specs.declared.Carrier.the-variants.{Uart}
 use Rattle.boot.specs.declared.Session.{Session}
-use Rattle.theorems.specs.Secrecy.{shut, veiled}
-
--- a session is on UART in a step, or on CAN in a step
-abbrev pub inUart : US.Step → Session → Bool
-inUart s p = on Uart p && eqb (p .step) (U.stepNo s)
-
-abbrev pub inCan : CS.Step → Session → Bool
-inCan s p = on Can p && eqb (p .step) (C.stepNo s)
+use Rattle.theorems.specs.Secrecy.{inUart, inCan, shut, veiled}
 
 -- the X of a step that counts bytes, read back from what it expects
 abbrev pub countOfBytes : Session → ℕ
@@ -131,7 +125,7 @@ pub record EraseAllOrNothing : Type 0 where
       → call i (run is p) .state .memories ≡ p .memories
   -- and a list that is accepted holds only sectors of the board, none of them write-protected
   pub accepted : (i : Input) (p : State) → T (inEraseList (p .session)) → T (acks (done i p .reply))
-      → T (all isSector (toErase i (p .session))) × T (not (any (writeProtected (p .memories .usd)) (toErase i (p .session))))
+      → T (all isSector (toErase i (p .session))) × T (not (any (writeProtected (viewIn p)) (toErase i (p .session))))
 
 -- ---- (c) a locked board was read: "a board that is locked when it is powered on never decides to read, whatever comes in, until an obeyed Access
 -- Unprotect (by its wiping): no byte of flash, SRAM or USD is sent, the CRC value apart"
@@ -179,7 +173,7 @@ toProtect i s = firstIndexed (countOfBytes s) (stagedAfter i s)
 -- what an accepted list leaves of the memories
 pub record Protects (ks : List Sector) (m n : Memories) : Type 0 where
   -- a sector is write-protected exactly if it is named
-  pub exactly : (k : Sector) → T (isSector k) → writeProtected (n .usd) k ≡ named ks k
+  pub exactly : (k : Sector) → T (isSector k) → writeProtected (viewOf (n .usd)) k ≡ named ks k
   -- only sectors of the board are named
   pub sectors : T (all isSector ks)
   -- and nothing else changes

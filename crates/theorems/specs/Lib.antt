@@ -1,4 +1,5 @@
 pub mod Talk
 pub mod Secrecy
+pub mod Runs
 pub mod Failures
 pub mod Determined

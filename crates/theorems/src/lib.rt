@@ -1,1 +1,57 @@
-// What is proved of the definitions alone; there is no code here.
+// What is proved of the definitions alone. Nothing is run here: each function's promise is a statement of specs/, so that a check fails where its
+// proof is missing.
+ghost use Rattle.theorems.specs.Talk.{WorkedTalk};
+ghost use Rattle.theorems.specs.Secrecy.{OpensExactly, Demand3};
+ghost use Rattle.theorems.specs.Runs.{RunsOnce, Demand3OfCode};
+ghost use Rattle.theorems.specs.Determined.{Determined};
+ghost use Rattle.theorems.specs.Failures.{OnlyNamedBytes, EraseAllOrNothing, NeverRead, ExactlyNamed};
+
+// Every starred row of the worked talk is answered as the paper has it.
+pub fn worked_talk()
+    ensures { λ _. ⌜ WorkedTalk ⌝ }
+{}
+
+// Demand 3: two locked boards, given the same calls, leave the same to be seen until an obeyed Access Unprotect, and the same in everything after it.
+pub fn demand_three()
+    ensures { λ _. ⌜ Demand3 ⌝ }
+{}
+
+// Calls that keep their promises leave what the definitions say, and any calls can be made so.
+pub fn runs_once()
+    ensures { λ _. ⌜ RunsOnce ⌝ }
+{}
+
+// Demand 3 of the code: the same of whatever its calls hand back and leave, where each keeps its promise.
+pub fn demand_three_of_code()
+    ensures { λ _. ⌜ Demand3OfCode ⌝ }
+{}
+
+// Which inputs are an obeyed Access Unprotect: 0x92, and on UART its complement behind it, to an idle session in a call that is accepted.
+pub fn opens_exactly()
+    ensures { λ _. ⌜ OpensExactly ⌝ }
+{}
+
+// Two outcomes that keep a call's promise are equal.
+pub fn determinism()
+    ensures { λ _. ⌜ Determined ⌝ }
+{}
+
+// Failure (a): a write changes at most the bytes it names.
+pub fn only_named_bytes()
+    ensures { λ _. ⌜ OnlyNamedBytes ⌝ }
+{}
+
+// Failure (b): a refused erase leaves every byte.
+pub fn erase_all_or_nothing()
+    ensures { λ _. ⌜ EraseAllOrNothing ⌝ }
+{}
+
+// Failure (c): a locked board never decides to read.
+pub fn never_read()
+    ensures { λ _. ⌜ NeverRead ⌝ }
+{}
+
+// Failure (d): after an accepted 0x63 exactly the named sectors are protected.
+pub fn exactly_named()
+    ensures { λ _. ⌜ ExactlyNamed ⌝ }
+{}

@@ -6,6 +6,7 @@ use native.Mathlib.Omega.{arith}
 use lib.Dec.{T}
 use lib.ListN.{getD}
 use Rattle.constants.specs.declared.Address.{Address}
+use Rattle.board.specs.declared.View.{View}
 use Rattle.command.specs.declared.Command.{Command}
 use Rattle.command.specs.declared.Command.the-variants.{GetCommands, GetVersion, GetDeviceId, ReadMemory, Jump, WriteMemory, Erase, ProgramProtect, ProgramUnprotect, AccessProtect, AccessUnprotect, FirmwareCrc, ResetDevice, Speed}
 use Rattle.command.specs.declared.Decision.{Decision}
@@ -40,10 +41,10 @@ module _ (bytes : List ℕ) where
   obeyed-good ResetDevice = told bytes tt
   obeyed-good Speed = told bytes tt
 
-  commanded-good : (usd : List ℕ) (k : Lookup) → Holds (Good bytes) (commanded usd k)
+  commanded-good : (view : View) (k : Lookup) → Holds (Good bytes) (commanded view k)
   unfolding commanded
-  commanded-good usd (Known k) = unless-either (Good bytes) usd k (refusal bytes) (obeyed-good k)
-  commanded-good usd Unknown = told bytes tt
+  commanded-good view (Known k) = unless-either (Good bytes) view k (refusal bytes) (obeyed-good k)
+  commanded-good view Unknown = told bytes tt
 
   addressed-good : (go : Address → Decision) → ((a : Address) → Holds (Good bytes) (go a)) → Holds (Good bytes) (addressed go bytes)
   unfolding addressed
@@ -60,27 +61,27 @@ module _ (bytes : List ℕ) where
   selected-good Impossible = told bytes tt
 
   -- the first byte is a byte, so that no read is longer than 256
-  pub complete-good : getD bytes 0 0 < 256 → (s : Step) (e : ℕ) → T (expects s e) → (a : ℕ) (usd : List ℕ)
-      → Holds (Good bytes) (complete s e a bytes usd)
+  pub complete-good : getD bytes 0 0 < 256 → (s : Step) (e : ℕ) → T (expects s e) → (a : ℕ) (view : View)
+      → Holds (Good bytes) (complete s e a bytes view)
   unfolding complete
-  complete-good b Idle e t a usd = either (Good bytes) _ (commanded-good usd _) (told bytes tt)
-  complete-good b ReadAddress e t a usd = addressed-good _ (kept-good _ _ _)
-  complete-good b JumpAddress e t a usd = addressed-good _ (jumping-good bytes)
-  complete-good b WriteAddress e t a usd = addressed-good _ (kept-good _ _ _)
-  complete-good b CrcAddress e t a usd = addressed-good _ (kept-good _ _ _)
-  complete-good b ReadLength e t a usd = either (Good bytes) _ (reading-good bytes _ (getD bytes 0 0 + 1) (omega arith)) (told bytes tt)
-  complete-good b WriteLength e t a usd = told bytes tt
-  complete-good b WriteData e t a usd =
+  complete-good b Idle e t a view = either (Good bytes) _ (commanded-good view _) (told bytes tt)
+  complete-good b ReadAddress e t a view = addressed-good _ (kept-good _ _ _)
+  complete-good b JumpAddress e t a view = addressed-good _ (jumping-good bytes)
+  complete-good b WriteAddress e t a view = addressed-good _ (kept-good _ _ _)
+  complete-good b CrcAddress e t a view = addressed-good _ (kept-good _ _ _)
+  complete-good b ReadLength e t a view = either (Good bytes) _ (reading-good bytes _ (getD bytes 0 0 + 1) (omega arith)) (told bytes tt)
+  complete-good b WriteLength e t a view = told bytes tt
+  complete-good b WriteData e t a view =
       let h = counted e t in
-      either (Good bytes) _ (writing-good bytes usd _ (countIn e) (omega arith)) (told bytes tt)
-  complete-good b EraseSelector e t a usd = selected-good _
-  complete-good b SpecialCheck e t a usd =
+      either (Good bytes) _ (writing-good bytes view _ (countIn e) (omega arith)) (told bytes tt)
+  complete-good b EraseSelector e t a view = selected-good _
+  complete-good b SpecialCheck e t a view =
       either (Good bytes) _ (judged-either (Good bytes) _ (refusal bytes) (record { holds = record { sayable = tt; fits = tt } })) (told bytes tt)
-  complete-good b EraseList e t a usd =
+  complete-good b EraseList e t a view =
       let h = numbered e t in
-      either (Good bytes) _ (erasing-good bytes usd (numbersIn e) (omega arith)) (told bytes tt)
-  complete-good b ProtectLength e t a usd = told bytes tt
-  complete-good b ProtectList e t a usd =
+      either (Good bytes) _ (erasing-good bytes view (numbersIn e) (omega arith)) (told bytes tt)
+  complete-good b ProtectLength e t a view = told bytes tt
+  complete-good b ProtectList e t a view =
       let h = counted e t in
       either (Good bytes) _ (protecting-good bytes (countIn e) (omega arith)) (told bytes tt)
-  complete-good b CrcCount e t a usd = either (Good bytes) _ (summing-good bytes _ _) (told bytes tt)
+  complete-good b CrcCount e t a view = either (Good bytes) _ (summing-good bytes _ _) (told bytes tt)

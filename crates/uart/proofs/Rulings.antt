@@ -5,9 +5,9 @@ use Prim.Native.Nat.{ℕ, _-_}
 use lib.ListN.{length, getD}
 use Rattle.words.specs.Hex.{hex}
 use Rattle.board.specs.Regions.{placeOf}
-use Rattle.board.specs.Usd.{writeProtected}
+use Rattle.board.specs.View.{viewOf, writeProtected}
 use Rattle.board.specs.declared.Region.the-variants.{Flash}
-use Rattle.memories.specs.Memories.{freshUsd}
+use Rattle.board.specs.declared.View.{View}
 use Rattle.memories.specs.declared.Change.the-variants.{Write, EraseAll, EraseSectors, ProtectOnly, Lock, Unlock}
 use Rattle.command.specs.Decision.{if_gives_else_, answer, alter, nack, judged}
 use Rattle.command.specs.declared.Decision.{Decision}
@@ -15,7 +15,7 @@ use Rattle.command.specs.declared.Next.the-variants.{Reset, GoIdle, Enter, Ente
 use Rattle.command.specs.declared.Reply.the-variants.{Silence, Ack, AckAck, Data, Crc}
 use Rattle.command.specs.declared.Why.the-variants.{BadComplement, UnknownCommand, AccessProtected, BadChecksum, BadAddress, BadRange, UnsupportedErase}
 use Rattle.rules.specs.Rules as Q
-use Rattle.rules.proofs.Rulings.{Ruling, _is_, decisions, papers, lockedUsd}
+use Rattle.rules.proofs.Rulings.{Ruling, _is_, decisions, papers, fresh, locked}
 use Rattle.uart.specs.Conversation as C
 use Rattle.uart.specs.Steps.{stepNo}
 use Rattle.uart.specs.declared.Step.{Step}
@@ -25,41 +25,41 @@ use Rattle.uart.specs.declared.Step.the-variants.{Idle, ReadAddress, Jum
 pub commands-told : C.commandBytes ≡ hex "0E 20 00 01 02 11 21 31 44 63 73 82 92 AC D4"
 commands-told = refl
 
--- the last byte of a step comes in: the bytes before it, the address, user system data
-abbrev last : Step → List ℕ → ℕ → List ℕ → Decision
-last s bytes a usd =
-    C.heard s (record { taken = length bytes - 1; expected = length bytes; address = a; staged = bytes }) usd (getD bytes (length bytes - 1) 0)
+-- the last byte of a step comes in: the bytes before it, the address, the view
+abbrev last : Step → List ℕ → ℕ → View → Decision
+last s bytes a view =
+    C.heard s (record { taken = length bytes - 1; expected = length bytes; address = a; staged = bytes }) view (getD bytes (length bytes - 1) 0)
 
 abbrev rulings : List Ruling
 rulings =
-    (last Idle (hex "01 FF") 0 freshUsd is nack BadComplement)
-    ∷ (last Idle (hex "03 FC") 0 freshUsd is nack UnknownCommand)
-    ∷ (last Idle (hex "11 EE") 0 lockedUsd is nack AccessProtected)
-    ∷ (last Idle (hex "AC 53") 0 lockedUsd is answer Ack (Enter (stepNo CrcAddress) 5))
-    ∷ (last Idle (hex "92 6D") 0 lockedUsd is alter AckAck Unlock Reset)
-    ∷ (last Idle (hex "82 7D") 0 freshUsd is alter AckAck Lock Reset)
-    ∷ (last ReadAddress (hex "08 00 00 00 08") 0 freshUsd is answer Ack (EnterAt (stepNo ReadLength) 2 0x08000000))
-    ∷ (last ReadAddress (hex "08 00 00 00 09") 0 freshUsd is nack BadChecksum)
-    ∷ (last ReadAddress (hex "09 00 00 00 09") 0 freshUsd is nack BadAddress)
-    ∷ (last ReadLength (hex "03 FC") 0x08000000 freshUsd is answer (Data Flash 0 4) GoIdle)
-    ∷ (last JumpAddress (hex "20 00 00 00 20") 0 freshUsd is answer Ack (Run 0x20000000))
-    ∷ (last WriteLength (hex "01") 0x080003FF freshUsd is answer Silence (Enter (stepNo WriteData) 3))
-    ∷ (last WriteData (hex "AA 0F A4") 0x080003FF freshUsd is alter Ack (Write Flash 1023 2) GoIdle)
-    ∷ (last WriteData (hex "AA 0F A5") 0x080003FF freshUsd is nack BadChecksum)
-    ∷ (last EraseSelector (hex "00 00") 0 freshUsd is answer Silence (Enter (stepNo EraseList) 3))
-    ∷ (last EraseSelector (hex "00 20") 0 freshUsd is nack BadRange)
-    ∷ (last EraseSelector (hex "FF FB") 0 freshUsd is answer Silence (EnterAt (stepNo SpecialCheck) 1 0xFFFB))
-    ∷ (last SpecialCheck (hex "01") 0xFFFE freshUsd is alter Ack EraseAll GoIdle)
-    ∷ (last SpecialCheck (hex "01") 0x1FFFE freshUsd is nack UnsupportedErase)
-    ∷ (last SpecialCheck (hex "02") 0xFFFD freshUsd is nack UnsupportedErase)
-    ∷ (last EraseList (hex "00 03 00 1F 1D") 0 freshUsd is alter Ack (EraseSectors 2) GoIdle)
-    ∷ (last ProtectList (hex "00 1F 1E") 0 freshUsd is alter Ack (ProtectOnly 2) Reset)
-    ∷ (last CrcAddress (hex "08 00 7C 00 74") 0 freshUsd is answer Ack (EnterAt (stepNo CrcCount) 3 0x08007C00))
-    ∷ (last CrcCount (hex "00 00 FF") 0x08007C00 freshUsd is answer (Crc 31744 1024) GoIdle)
-    ∷ (last CrcCount (hex "00 00 00") 0x08007C00 freshUsd is nack BadChecksum)
-    ∷ (last CrcCount (hex "00 01 FE") 0x08007C00 freshUsd is nack BadRange)
+    (last Idle (hex "01 FF") 0 fresh is nack BadComplement)
+    ∷ (last Idle (hex "03 FC") 0 fresh is nack UnknownCommand)
+    ∷ (last Idle (hex "11 EE") 0 locked is nack AccessProtected)
+    ∷ (last Idle (hex "AC 53") 0 locked is answer Ack (Enter (stepNo CrcAddress) 5))
+    ∷ (last Idle (hex "92 6D") 0 locked is alter AckAck Unlock Reset)
+    ∷ (last Idle (hex "82 7D") 0 fresh is alter AckAck Lock Reset)
+    ∷ (last ReadAddress (hex "08 00 00 00 08") 0 fresh is answer Ack (EnterAt (stepNo ReadLength) 2 0x08000000))
+    ∷ (last ReadAddress (hex "08 00 00 00 09") 0 fresh is nack BadChecksum)
+    ∷ (last ReadAddress (hex "09 00 00 00 09") 0 fresh is nack BadAddress)
+    ∷ (last ReadLength (hex "03 FC") 0x08000000 fresh is answer (Data Flash 0 4) GoIdle)
+    ∷ (last JumpAddress (hex "20 00 00 00 20") 0 fresh is answer Ack (Run 0x20000000))
+    ∷ (last WriteLength (hex "01") 0x080003FF fresh is answer Silence (Enter (stepNo WriteData) 3))
+    ∷ (last WriteData (hex "AA 0F A4") 0x080003FF fresh is alter Ack (Write Flash 1023 2) GoIdle)
+    ∷ (last WriteData (hex "AA 0F A5") 0x080003FF fresh is nack BadChecksum)
+    ∷ (last EraseSelector (hex "00 00") 0 fresh is answer Silence (Enter (stepNo EraseList) 3))
+    ∷ (last EraseSelector (hex "00 20") 0 fresh is nack BadRange)
+    ∷ (last EraseSelector (hex "FF FB") 0 fresh is answer Silence (EnterAt (stepNo SpecialCheck) 1 0xFFFB))
+    ∷ (last SpecialCheck (hex "01") 0xFFFE fresh is alter Ack EraseAll GoIdle)
+    ∷ (last SpecialCheck (hex "01") 0x1FFFE fresh is nack UnsupportedErase)
+    ∷ (last SpecialCheck (hex "02") 0xFFFD fresh is nack UnsupportedErase)
+    ∷ (last EraseList (hex "00 03 00 1F 1D") 0 fresh is alter Ack (EraseSectors 2) GoIdle)
+    ∷ (last ProtectList (hex "00 1F 1E") 0 fresh is alter Ack (ProtectOnly 2) Reset)
+    ∷ (last CrcAddress (hex "08 00 7C 00 74") 0 fresh is answer Ack (EnterAt (stepNo CrcCount) 3 0x08007C00))
+    ∷ (last CrcCount (hex "00 00 FF") 0x08007C00 fresh is answer (Crc 31744 1024) GoIdle)
+    ∷ (last CrcCount (hex "00 00 00") 0x08007C00 fresh is nack BadChecksum)
+    ∷ (last CrcCount (hex "00 01 FE") 0x08007C00 fresh is nack BadRange)
     ∷ []
 
 pub ruled : decisions rulings ≡ papers rulings
-unfolding placeOf writeProtected if_gives_else_ judged Q.unlessProtected Q.readAt Q.reading Q.writeVerdictAt Q.writeVerdict Q.writeAt Q.writing Q.selectorOf Q.eraseVerdict Q.erasing Q.eraseAllVerdict Q.protectVerdict Q.protecting Q.jumping Q.sumAt Q.summing C.obeyed C.commanded C.addressed C.keptIf C.selected C.complete C.heard
+unfolding placeOf viewOf writeProtected if_gives_else_ judged Q.unlessProtected Q.readAt Q.reading Q.writeVerdictAt Q.writeVerdict Q.writeAt Q.writing Q.selectorOf Q.eraseVerdict Q.erasing Q.eraseAllVerdict Q.protectVerdict Q.protecting Q.jumping Q.sumAt Q.summing C.obeyed C.commanded C.addressed C.keptIf C.selected C.complete C.heard
 ruled = refl

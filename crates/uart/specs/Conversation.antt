@@ -10,6 +10,7 @@ use Rattle.board.specs.Quantities.{largestCount, countOf, lessOne, oneLess, add
 use Rattle.command.specs.Says.{replyRoom}
 use Rattle.board.specs.Regions.{known, sectorStart}
 use Rattle.constants.specs.declared.Address.{Address}
+use Rattle.board.specs.declared.View.{View}
 use Rattle.memories.specs.declared.Change.the-variants.{EraseAll}
 use Rattle.command.specs.Commands.{code, uartCommands, lookUp}
 use Rattle.command.specs.Decision.{if_gives_else_, answer, alter, nack, judged}
@@ -83,9 +84,9 @@ obeyed ResetDevice = resetting
 obeyed Speed = nack UnknownCommand
 
 -- unknown or protected: NACK
-unfoldable pub commanded : List ℕ → Lookup → Decision
-commanded usd (Known c) = unlessProtected usd c (obeyed c)
-commanded usd Unknown = nack UnknownCommand
+unfoldable pub commanded : View → Lookup → Decision
+commanded view (Known c) = unlessProtected view c (obeyed c)
+commanded view Unknown = nack UnknownCommand
 
 -- an address and the XOR of its four bytes
 unfoldable pub addressed : (Address → Decision) → List ℕ → Decision
@@ -103,38 +104,38 @@ selected (Listed n) = answer Silence (Enter (stepNo EraseList) (expectedForNumbe
 selected (Special n) = answer Silence (EnterAt (stepNo SpecialCheck) oneByte n)
 selected Impossible = nack BadRange
 
--- a step whose bytes are all there: what it expected, the session's address, the staged bytes, user system data
-unfoldable pub complete : Step → ℕ → ℕ → List ℕ → List ℕ → Decision
-complete Idle e a bytes usd =
-    if complemented bytes gives commanded usd (lookUp uartCommands (getD bytes 0 0)) else nack BadComplement
-complete ReadAddress e a bytes usd = addressed (keptIf known ReadLength complementedByte) bytes
-complete JumpAddress e a bytes usd = addressed jumping bytes
-complete WriteAddress e a bytes usd = addressed (keptIf known WriteLength oneByte) bytes
-complete CrcAddress e a bytes usd = addressed (keptIf sectorStart CrcCount checkedCount) bytes
-complete ReadLength e a bytes usd =
+-- a step whose bytes are all there: what it expected, the session's address, the staged bytes, the view
+unfoldable pub complete : Step → ℕ → ℕ → List ℕ → View → Decision
+complete Idle e a bytes view =
+    if complemented bytes gives commanded view (lookUp uartCommands (getD bytes 0 0)) else nack BadComplement
+complete ReadAddress e a bytes view = addressed (keptIf known ReadLength complementedByte) bytes
+complete JumpAddress e a bytes view = addressed jumping bytes
+complete WriteAddress e a bytes view = addressed (keptIf known WriteLength oneByte) bytes
+complete CrcAddress e a bytes view = addressed (keptIf sectorStart CrcCount checkedCount) bytes
+complete ReadLength e a bytes view =
     if complemented bytes gives reading (address a) (countOf (lessOne (getD bytes 0 0))) else nack BadChecksum
-complete WriteLength e a bytes usd = awaits WriteData bytes
-complete WriteData e a bytes usd =
-    if checksCounted (countIn e) bytes gives writing usd (address a) (countIn e) else nack BadChecksum
-complete EraseSelector e a bytes usd = selected (selectorOf (number (take selectorBytes bytes)))
-complete SpecialCheck e a bytes usd =
-    if checks (twoBytes a) (getD bytes 0 0) gives judged (eraseAllVerdict usd a) (alter Ack EraseAll GoIdle)
+complete WriteLength e a bytes view = awaits WriteData bytes
+complete WriteData e a bytes view =
+    if checksCounted (countIn e) bytes gives writing view (address a) (countIn e) else nack BadChecksum
+complete EraseSelector e a bytes view = selected (selectorOf (number (take selectorBytes bytes)))
+complete SpecialCheck e a bytes view =
+    if checks (twoBytes a) (getD bytes 0 0) gives judged (eraseAllVerdict view a) (alter Ack EraseAll GoIdle)
     else nack BadChecksum
-complete EraseList e a bytes usd =
-    if checksNumbered (numbersIn e) bytes gives erasing usd bytes (numbersIn e) else nack BadChecksum
-complete ProtectLength e a bytes usd = awaits ProtectList bytes
-complete ProtectList e a bytes usd =
+complete EraseList e a bytes view =
+    if checksNumbered (numbersIn e) bytes gives erasing view bytes (numbersIn e) else nack BadChecksum
+complete ProtectLength e a bytes view = awaits ProtectList bytes
+complete ProtectList e a bytes view =
     if checksCounted (countIn e) bytes gives protecting bytes (countIn e) else nack BadChecksum
-complete CrcCount e a bytes usd =
+complete CrcCount e a bytes view =
     if checks (0xFF ∷ take longCountBytes bytes) (getD bytes longCountBytes 0)
     gives summing (address a) (countOf (lessOne (number (take longCountBytes bytes))))
     else nack BadChecksum
 
 -- one byte of a connected host: gathered, or the last of its step
-unfoldable pub heard : Step → Progress → List ℕ → ℕ → Decision
-heard s p usd b =
+unfoldable pub heard : Step → Progress → View → ℕ → Decision
+heard s p view b =
     if short p (b ∷ []) gives answer Silence Gather
-    else complete s (p .expected) (p .address) (stagedWith p (b ∷ [])) usd
+    else complete s (p .expected) (p .address) (stagedWith p (b ∷ [])) view
 
 -- the bytes that a command takes at most to its last answer: its own two, and what its steps expect
 abbrev pub bytesTo : Command → ℕ

@@ -7,15 +7,16 @@ ghost use mathlib.Core.List.{[]};
 ghost use Prim.Native.Nat.{_+_, _≤_, _<_};
 ghost use lib.Dec.{T, ltb};
 ghost use lib.ListN.{length};
-ghost use Rattle.board.specs.Board.{extentOf, sectors};
+ghost use Rattle.board.specs.Board.{sectors};
 ghost use Rattle.board.specs.Quantities.{largestCount, selectorBytes};
-ghost use Rattle.board.specs.declared.Region.the-variants.{Usd};
+ghost use Rattle.board.specs.View.{viewOf};
 ghost use Rattle.memories.specs.Effects.{stagedBytes};
 ghost use Rattle.command.specs.Decision.{if_gives_else_, answer};
 ghost use Rattle.command.specs.declared.Next.the-variants.{Gather};
 ghost use Rattle.command.specs.declared.Reply.the-variants.{Silence};
 ghost use Rattle.uart.specs.Steps.{stepOf, expects, complementedByte, oneByte, checkedCount, expectedFor, expectedForNumbers};
 ghost use Rattle.uart.specs.Conversation.{awaits, selected, complete};
+use board::View;
 use command::Decision;
 use command::Next;
 use command::Reply;
@@ -60,13 +61,13 @@ fn selected(selector: Selector) -> Decision
 }
 
 // The end of a command and its complement.
-fn command_ends(usd: &[u8], bytes: &[u8]) -> Decision
-    requires { ⌜ (length (now usd) ≡ extentOf Usd .bytes) × (length (now bytes) ≡ stagedBytes) ⌝ }
-    ensures { λ r. ⌜ r ≡ complete Step.Idle complementedByte 0 (now (bytes .entry)) (now (usd .entry)) ⌝ }
+fn command_ends(view: View, bytes: &[u8]) -> Decision
+    requires { ⌜ length (now bytes) ≡ stagedBytes ⌝ }
+    ensures { λ r. ⌜ r ≡ complete Step.Idle complementedByte 0 (now (bytes .entry)) view ⌝ }
 {
     command::accept_if(
         checksum::complemented(bytes),
-        obey::commanded(usd, obey::look_up(bytes[0])),
+        obey::commanded(view, obey::look_up(bytes[0])),
         Why::BadComplement,
     )
 }
@@ -74,7 +75,7 @@ fn command_ends(usd: &[u8], bytes: &[u8]) -> Decision
 // The end of a read's length and its complement.
 fn read_ends(address: u32, bytes: &[u8]) -> Decision
     requires { ⌜ length (now bytes) ≡ stagedBytes ⌝ }
-    ensures { λ r. ⌜ r ≡ complete Step.ReadLength complementedByte address (now (bytes .entry)) [] ⌝ }
+    ensures { λ r. ⌜ r ≡ complete Step.ReadLength complementedByte address (now (bytes .entry)) (viewOf []) ⌝ }
 {
     command::accept_if(
         checksum::complemented(bytes),
@@ -84,14 +85,14 @@ fn read_ends(address: u32, bytes: &[u8]) -> Decision
 }
 
 // The end of a write's data and their checksum.
-fn write_ends(usd: &[u8], expected: usize, address: u32, bytes: &[u8]) -> Decision
-    requires { ⌜ (length (now usd) ≡ extentOf Usd .bytes) × (expectedFor 1 ≤ expected) × (expected ≤ expectedFor largestCount) × (length (now bytes) ≡ stagedBytes) ⌝ }
-    ensures { λ r. ⌜ r ≡ complete Step.WriteData expected address (now (bytes .entry)) (now (usd .entry)) ⌝ }
+fn write_ends(view: View, expected: usize, address: u32, bytes: &[u8]) -> Decision
+    requires { ⌜ (expectedFor 1 ≤ expected) × (expected ≤ expectedFor largestCount) × (length (now bytes) ≡ stagedBytes) ⌝ }
+    ensures { λ r. ⌜ r ≡ complete Step.WriteData expected address (now (bytes .entry)) view ⌝ }
 {
     let x = expected - 1;
     command::accept_if(
         checksum::checks_counted(bytes, x),
-        deciding::write::write(usd, Address(address), x),
+        deciding::write::write(view, Address(address), x),
         Why::BadChecksum,
     )
 }
@@ -99,20 +100,20 @@ fn write_ends(usd: &[u8], expected: usize, address: u32, bytes: &[u8]) -> Decisi
 // The end of an erase's selector.
 fn selector_ends(bytes: &[u8]) -> Decision
     requires { ⌜ length (now bytes) ≡ stagedBytes ⌝ }
-    ensures { λ r. ⌜ r ≡ complete Step.EraseSelector selectorBytes 0 (now (bytes .entry)) [] ⌝ }
+    ensures { λ r. ⌜ r ≡ complete Step.EraseSelector selectorBytes 0 (now (bytes .entry)) (viewOf []) ⌝ }
 {
     selected(list_deciding::erase::selector_of(words::number2(bytes[0], bytes[1])))
 }
 
 // The end of a special erase.
-fn special_ends(usd: &[u8], address: u32, bytes: &[u8]) -> Decision
-    requires { ⌜ (length (now usd) ≡ extentOf Usd .bytes) × (length (now bytes) ≡ stagedBytes) ⌝ }
-    ensures { λ r. ⌜ r ≡ complete Step.SpecialCheck oneByte address (now (bytes .entry)) (now (usd .entry)) ⌝ }
+fn special_ends(view: View, address: u32, bytes: &[u8]) -> Decision
+    requires { ⌜ length (now bytes) ≡ stagedBytes ⌝ }
+    ensures { λ r. ⌜ r ≡ complete Step.SpecialCheck oneByte address (now (bytes .entry)) view ⌝ }
 {
     command::accept_if(
         checksum::special_checks(address, bytes[0]),
         command::judged(
-            list_deciding::erase::erase_all_verdict(usd, address),
+            list_deciding::erase::erase_all_verdict(view, address),
             command::alter(Reply::Ack, Change::EraseAll, Next::GoIdle),
         ),
         Why::BadChecksum,
@@ -120,14 +121,14 @@ fn special_ends(usd: &[u8], address: u32, bytes: &[u8]) -> Decision
 }
 
 // The end of an erase's numbers and their checksum.
-fn erase_ends(usd: &[u8], expected: usize, bytes: &[u8]) -> Decision
-    requires { ⌜ (length (now usd) ≡ extentOf Usd .bytes) × (expectedForNumbers 1 ≤ expected) × (expected ≤ expectedForNumbers (sectors .count)) × (length (now bytes) ≡ stagedBytes) ⌝ }
-    ensures { λ r. ⌜ r ≡ complete Step.EraseList expected 0 (now (bytes .entry)) (now (usd .entry)) ⌝ }
+fn erase_ends(view: View, expected: usize, bytes: &[u8]) -> Decision
+    requires { ⌜ (expectedForNumbers 1 ≤ expected) × (expected ≤ expectedForNumbers (sectors .count)) × (length (now bytes) ≡ stagedBytes) ⌝ }
+    ensures { λ r. ⌜ r ≡ complete Step.EraseList expected 0 (now (bytes .entry)) view ⌝ }
 {
     let x = (expected - 1) / 2;
     command::accept_if(
         checksum::checks_numbered(bytes, x),
-        list_deciding::erase::erase(usd, bytes, x),
+        list_deciding::erase::erase(view, bytes, x),
         Why::BadChecksum,
     )
 }
@@ -135,7 +136,7 @@ fn erase_ends(usd: &[u8], expected: usize, bytes: &[u8]) -> Decision
 // The end of the indexes of 0x63 and their checksum.
 fn protect_ends(expected: usize, bytes: &[u8]) -> Decision
     requires { ⌜ (expectedFor 1 ≤ expected) × (expected ≤ expectedFor largestCount) × (length (now bytes) ≡ stagedBytes) ⌝ }
-    ensures { λ r. ⌜ r ≡ complete Step.ProtectList expected 0 (now (bytes .entry)) [] ⌝ }
+    ensures { λ r. ⌜ r ≡ complete Step.ProtectList expected 0 (now (bytes .entry)) (viewOf []) ⌝ }
 {
     let x = expected - 1;
     command::accept_if(
@@ -148,7 +149,7 @@ fn protect_ends(expected: usize, bytes: &[u8]) -> Decision
 // The end of Firmware CRC's count and its checksum.
 fn crc_ends(address: u32, bytes: &[u8]) -> Decision
     requires { ⌜ length (now bytes) ≡ stagedBytes ⌝ }
-    ensures { λ r. ⌜ r ≡ complete Step.CrcCount checkedCount address (now (bytes .entry)) [] ⌝ }
+    ensures { λ r. ⌜ r ≡ complete Step.CrcCount checkedCount address (now (bytes .entry)) (viewOf []) ⌝ }
 {
     command::accept_if(
         bytes[2] == words::xor_from(CRC_CHECK, bytes, 2),
@@ -158,12 +159,12 @@ fn crc_ends(address: u32, bytes: &[u8]) -> Decision
 }
 
 // A step whose bytes are all there.
-fn complete(step: Step, expected: usize, address: u32, bytes: &[u8], usd: &[u8]) -> Decision
-    requires { ⌜ T (expects step expected) × (length (now bytes) ≡ stagedBytes) × (length (now usd) ≡ extentOf Usd .bytes) ⌝ }
-    ensures { λ r. ⌜ r ≡ complete step expected address (now (bytes .entry)) (now (usd .entry)) ⌝ }
+fn complete(step: Step, expected: usize, address: u32, bytes: &[u8], view: View) -> Decision
+    requires { ⌜ T (expects step expected) × (length (now bytes) ≡ stagedBytes) ⌝ }
+    ensures { λ r. ⌜ r ≡ complete step expected address (now (bytes .entry)) view ⌝ }
 {
     match step {
-        Step::Idle => command_ends(usd, bytes),
+        Step::Idle => command_ends(view, bytes),
         Step::ReadAddress => address::region_address(
             bytes,
             Step::ReadLength,
@@ -174,10 +175,10 @@ fn complete(step: Step, expected: usize, address: u32, bytes: &[u8], usd: &[u8])
         Step::CrcAddress => address::crc_address(bytes, Step::CrcCount, uart::CHECKED_COUNT),
         Step::ReadLength => read_ends(address, bytes),
         Step::WriteLength => awaits(Step::WriteData, bytes),
-        Step::WriteData => write_ends(usd, expected, address, bytes),
+        Step::WriteData => write_ends(view, expected, address, bytes),
         Step::EraseSelector => selector_ends(bytes),
-        Step::SpecialCheck => special_ends(usd, address, bytes),
-        Step::EraseList => erase_ends(usd, expected, bytes),
+        Step::SpecialCheck => special_ends(view, address, bytes),
+        Step::EraseList => erase_ends(view, expected, bytes),
         Step::ProtectLength => awaits(Step::ProtectList, bytes),
         Step::ProtectList => protect_ends(expected, bytes),
         Step::CrcCount => crc_ends(address, bytes),
@@ -191,15 +192,15 @@ pub fn heard(
     expected: usize,
     address: u32,
     bytes: &[u8],
-    usd: &[u8],
+    view: View,
 ) -> Decision
-    requires { ⌜ (taken < expected) × T (expects (stepOf step) expected) × (length (now bytes) ≡ stagedBytes) × (length (now usd) ≡ extentOf Usd .bytes) ⌝ }
-    ensures { λ r. ⌜ r ≡ (if ltb (taken + 1) expected gives answer Silence Gather else complete (stepOf step) expected address (now (bytes .entry)) (now (usd .entry))) ⌝ }
+    requires { ⌜ (taken < expected) × T (expects (stepOf step) expected) × (length (now bytes) ≡ stagedBytes) ⌝ }
+    ensures { λ r. ⌜ r ≡ (if ltb (taken + 1) expected gives answer Silence Gather else complete (stepOf step) expected address (now (bytes .entry)) view) ⌝ }
 {
     let more = taken + 1 < expected;
     if more {
         command::answer(Reply::Silence, Next::Gather)
     } else {
-        complete(Step::of(step), expected, address, bytes, usd)
+        complete(Step::of(step), expected, address, bytes, view)
     }
 }

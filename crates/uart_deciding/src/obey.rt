@@ -1,9 +1,7 @@
 ghost use mathlib.Core.Path.{_≡_};
-ghost use lib.ListN.{length};
-ghost use Rattle.board.specs.Board.{extentOf};
-ghost use Rattle.board.specs.declared.Region.the-variants.{Usd};
 ghost use Rattle.command.specs.Commands.{uartCommands, lookUp};
 ghost use Rattle.uart.specs.Conversation.{goOn, obeyed, commanded};
+use board::View;
 use command::Command;
 use command::Decision;
 use command::Lookup;
@@ -56,13 +54,12 @@ fn obeyed(command: Command) -> Decision
 }
 
 // A command that is known and not forbidden is obeyed.
-pub fn commanded(usd: &[u8], lookup: Lookup) -> Decision
-    requires { ⌜ length (now usd) ≡ extentOf Usd .bytes ⌝ }
-    ensures { λ r. ⌜ r ≡ commanded (now (usd .entry)) lookup ⌝ }
+pub fn commanded(view: View, lookup: Lookup) -> Decision
+    ensures { λ r. ⌜ r ≡ commanded view lookup ⌝ }
 {
     match lookup {
         Lookup::Known(command) => deciding::protected::unless_protected(
-            usd,
+            view,
             command,
             obeyed(command),
         ),

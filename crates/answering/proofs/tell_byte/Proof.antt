@@ -4,6 +4,8 @@ use native.Mathlib.Omega.{arith}
 use mathlib.Core.Path.{refl}
 use Prim.Native.Nat.{_≤_}
 use lib.ListN.{replicate}
+use Rattle.memories.specs.Lent.{held}
+use Rattle.memories.specs.Memories.{memories}
 use Rattle.boot.specs.Promise.{Left, left, Given, givenByte}
 use Rattle.answers.specs.Answers.{deskRoom}
 use Rattle.answers.proofs.Telling.{took-fits, byte-told}
@@ -16,13 +18,13 @@ start c = c .before .before .before .before .before .before .before .before .bef
 
 abbrev given : tie.After-take-byte → Given
 given c =
-    givenByte (start c .args .session) (start c .args .byte) (start c .args .flash .now) (start c .args .sram .now)
-    (start c .args .usd .now) (replicate deskRoom 0)
+    givenByte (start c .args .session) (start c .args .byte) (held (start c .args .flash) (start c .args .sram)
+    (start c .args .usd)) (replicate deskRoom 0)
 
 abbrev leaves : tie.After-take-byte → Left
 leaves c =
     let last = c .take-byte .last in
-    left (c .take-byte .result) (last .1 .1 .0) (last .1 .1 .1 .0) (last .1 .1 .1 .1 .0) (last .1 .1 .1 .1 .1 .0)
+    left (c .take-byte .result) (memories (last .1 .1 .0) (last .1 .1 .1 .0) (last .1 .1 .1 .1 .0)) (last .1 .1 .1 .1 .1 .0)
 
 -- its reply is no longer than the room lent for it
 fits : (c : tie.After-take-byte) → c .take-byte .result .length ≤ deskRoom

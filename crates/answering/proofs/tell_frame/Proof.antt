@@ -7,6 +7,8 @@ use Prim.Native.Nat.{ℕ, _%_, _≤_}
 use lib.ListN.{length, take, replicate}
 use lib.Seq.{length-take-le}
 use Rattle.frames.specs.Frames.{classic, frameBytes}
+use Rattle.memories.specs.Lent.{held}
+use Rattle.memories.specs.Memories.{memories}
 use Rattle.boot.specs.Calls.{Framed}
 use Rattle.boot.specs.Promise.{Left, left, Given, givenFrame, stateOf, outcome}
 use Rattle.lines.proofs.Lines.{frame-good}
@@ -26,13 +28,13 @@ start c = made c .before .before .before .before .before .before .before
 -- what the call was given, and what it left
 abbrev given : tie.After-take-frame → Given
 given c =
-    givenFrame (start c .args .session) (made c .frame .last .1 .0) (start c .args .flash .now) (start c .args .sram .now)
-    (start c .args .usd .now) (replicate deskRoom 0)
+    givenFrame (start c .args .session) (made c .frame .last .1 .0) (held (start c .args .flash) (start c .args .sram)
+    (start c .args .usd)) (replicate deskRoom 0)
 
 abbrev leaves : tie.After-take-frame → Left
 leaves c =
     let last = c .take-frame .last in
-    left (c .take-frame .result) (last .1 .1 .0) (last .1 .1 .1 .0) (last .1 .1 .1 .1 .0) (last .1 .1 .1 .1 .1 .0)
+    left (c .take-frame .result) (memories (last .1 .1 .0) (last .1 .1 .1 .0) (last .1 .1 .1 .1 .0)) (last .1 .1 .1 .1 .1 .0)
 
 -- its reply is no longer than the room lent for it, and stands there whole
 fits : (c : tie.After-take-frame) → c .take-frame .result .length ≤ deskRoom

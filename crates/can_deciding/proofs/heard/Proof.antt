@@ -12,7 +12,7 @@ use Rattle.can_deciding.proofs.heard.Tie as tie
 
 -- the start of the call in which a step was found
 abbrev start : tie.After-of → tie.Start
-start c = c .before .before .before .before
+start c = c .before .before .before
 
 -- what is expected is what that step may expect
 expected : (c : tie.After-of) {s : Step} → c .of .result ≡ s → T (expects s (start c .args .expected))
@@ -22,13 +22,13 @@ write-frame-requires : tie.Need-write-frame-requires
 write-frame-requires c κs =
     let after-of = c .before .before in
     let h = counted (start after-of .args .expected) (expected after-of (c .enum-told2 .given .1)) in
-    (omega arith, h .1, omega arith, omega arith)
+    (omega arith, h .1, omega arith)
 
 erase-frame-requires : tie.Need-erase-frame-requires
 erase-frame-requires c κs =
     let after-of = c .before .before in
     let h = numbered (start after-of .args .expected) (expected after-of (c .enum-told3 .given .1)) in
-    (omega arith, h .1, omega arith, omega arith, omega arith)
+    (omega arith, h .1, omega arith, omega arith)
 
 protect-frame-requires : tie.Need-protect-frame-requires
 protect-frame-requires c κs =

@@ -1,5 +1,6 @@
 -- The board takes a frame with the session that the slice holds, and the session that follows is handed on.
 use borrow.Author.Needs.{needs}
+use Rattle.memories.specs.Lent.{held}
 use Rattle.boot.specs.Promise.{givenFrame}
 use Rattle.exports.proofs.Takes.{accepted-length, handed-on}
 use Rattle.exports.proofs.oilthicket_take_frame.Statement.{statement}
@@ -10,8 +11,8 @@ hand-on-requires c κs =
     let after-take-frame = c .before .before .before .before .before .before .before .before .before in
     let after-read = after-take-frame .before .before .before .before .before in
     let start = after-read .before .before .before .before .before .before .before .before in
-    accepted-length (givenFrame (after-read .read .result) (start .args .frame .now) (start .args .flash .now) (start .args .sram .now)
-    (start .args .usd .now) (start .args .buffer .now)) (start .args .session .now) (after-read .read .ensures) tt
+    accepted-length (givenFrame (after-read .read .result) (start .args .frame .now) (held (start .args .flash) (start .args .sram)
+    (start .args .usd)) (start .args .buffer .now)) (start .args .session .now) (after-read .read .ensures) tt
     (after-take-frame .take-frame .ensures)
 
 returns : tie.Need-returns
@@ -21,8 +22,8 @@ returns c =
     let after-read = after-take-frame .before .before .before .before .before in
     let start = after-read .before .before .before .before .before .before .before .before in
     rw (← after-read .read .ensures, after-hand-on .hand-on .ensures .0)
-    (handed-on (givenFrame (after-read .read .result) (start .args .frame .now) (start .args .flash .now) (start .args .sram .now)
-    (start .args .usd .now) (start .args .buffer .now)) (start .args .session .now) (after-read .read .ensures) tt
+    (handed-on (givenFrame (after-read .read .result) (start .args .frame .now) (held (start .args .flash) (start .args .sram)
+    (start .args .usd)) (start .args .buffer .now)) (start .args .session .now) (after-read .read .ensures) tt
     (after-take-frame .take-frame .ensures) (after-hand-on .hand-on .ensures .1))
 
 pub oilthicket-take-frame-spec : {M : Type 1} → statement M

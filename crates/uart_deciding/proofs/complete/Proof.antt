@@ -16,19 +16,19 @@ expected c e = subst (λ (s : Step). T (expects s (c .args .expected))) e (c .pr
 
 write-ends-requires : tie.Need-write-ends-requires
 write-ends-requires c κs =
-    let start = c .before .before .before .before in
+    let start = c .before .before .before in
     let h = counted (start .args .expected) (expected start (c .enum-told8 .given .1)) in
-    (omega arith, h .0, h .1, omega arith)
+    (h .0, h .1, omega arith)
 
 erase-ends-requires : tie.Need-erase-ends-requires
 erase-ends-requires c κs =
-    let start = c .before .before .before .before in
+    let start = c .before .before .before in
     let h = numbered (start .args .expected) (expected start (c .enum-told11 .given .1)) in
-    (omega arith, h .0, h .1, omega arith)
+    (h .0, h .1, omega arith)
 
 protect-ends-requires : tie.Need-protect-ends-requires
 protect-ends-requires c κs =
-    let start = c .before .before .before .before in
+    let start = c .before .before .before in
     let h = counted (start .args .expected) (expected start (c .enum-told13 .given .1)) in
     (h .0, h .1, omega arith)
 

@@ -13,6 +13,6 @@ heard-spec =
     (λ c. search needs)
     (λ c κs. search needs)
     (λ c κs. search needs)
-    (λ c κs. (rw (c .of .ensures) (c .before .before .before .before .pre .1), omega arith, omega arith))
+    (λ c κs. (rw (c .of .ensures) (c .before .before .before .pre .1), omega arith))
     (λ c. rw (c .before .if1 .taken) (c .answer .ensures))
     (λ c. rw (c .before .before .if1 .left, ← c .before .of .ensures) (c .complete .ensures)))

@@ -2,7 +2,6 @@
 use borrow.Author.Needs.{needs}
 use native.Mathlib.Omega.{arith}
 use Rattle.command.specs.Decision.{if_gives_else_}
-use native.Mathlib.Omega.{arith}
 use mathlib.Core.Path.{_≡_, ap}
 use Rattle.uart.specs.Conversation as UC
 use Rattle.boot.specs.Decide.{connected, decideByte}
@@ -16,10 +15,9 @@ heard-requires : tie.Need-heard-requires
 heard-requires c κs =
     let then1 = c .before .before .before in
     let after-on = then1 .before in
-    let start = after-on .before .before in (
+    let start = after-on .before in (
       sound-taken (start .args .self) (start .pre .0),
       uart-expects (start .args .self) (start .pre .0) (rw (← after-on .on .ensures, then1 .if1 .taken) tt),
-      omega arith,
       omega arith,
     )
 
@@ -28,10 +26,10 @@ unfolding decideByte connected UC.heard if_gives_else_
 returns c =
     let then1 = c .before .before .before .before in
     let after-on = then1 .before in
-    let start = after-on .before .before in
-    let e : c .heard .result ≡ decideByte (start .args .self) (start .args .usd .now) (start .args .byte) =
+    let start = after-on .before in
+    let e : c .heard .result ≡ decideByte (start .args .self) (start .args .view) (start .args .byte) =
     rw (← after-on .on .ensures, then1 .if1 .taken, ← ap (λ (s : Session). s .staged) (start .pre .1)) (c .heard .ensures) in
-    let g = byte-can (start .args .byte) (start .args .self) (start .args .usd .now) (start .pre .1) e (start .pre .0) (start .pre .3) in
+    let g = byte-can (start .args .byte) (start .args .self) (start .args .view) (start .pre .1) e (start .pre .0) (start .pre .2) in
     (e, g .sayable, g .fits)
 
 returns-2 : tie.Need-returns-2
@@ -39,10 +37,10 @@ unfolding decideByte connected UC.heard if_gives_else_
 returns-2 c =
     let else1 = c .before in
     let after-on = else1 .before in
-    let start = after-on .before .before in
-    let e : c .unconnected .result ≡ decideByte (start .args .self) (start .args .usd .now) (start .args .byte) =
+    let start = after-on .before in
+    let e : c .unconnected .result ≡ decideByte (start .args .self) (start .args .view) (start .args .byte) =
     rw (← after-on .on .ensures, else1 .if1 .left) (c .unconnected .ensures) in
-    let g = byte-can (start .args .byte) (start .args .self) (start .args .usd .now) (start .pre .1) e (start .pre .0) (start .pre .3) in
+    let g = byte-can (start .args .byte) (start .args .self) (start .args .view) (start .pre .1) e (start .pre .0) (start .pre .2) in
     (e, g .sayable, g .fits)
 
 pub decide-byte-spec : {M : Type 1} → statement M

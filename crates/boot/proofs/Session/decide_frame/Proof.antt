@@ -18,12 +18,11 @@ heard-requires : tie.Need-heard-requires
 heard-requires c κs =
     let then1 = c .before .before .before in
     let after-on = then1 .before in
-    let start = after-on .before .before .before in (
+    let start = after-on .before .before in (
       sound-taken (start .args .self) (start .pre .0),
       can-expects (start .args .self) (start .pre .0) (rw (← after-on .on .ensures, then1 .if1 .taken) tt),
       omega arith,
-      omega arith,
-      start .pre .3,
+      start .pre .2,
     )
 
 returns : tie.Need-returns
@@ -31,8 +30,8 @@ unfolding decideFrame connected CC.heard if_gives_else_
 returns c =
     let then1 = c .before .before .before .before in
     let after-on = then1 .before in
-    let start = after-on .before .before .before in
-    let e : c .heard .result ≡ decideFrame (start .args .self) (start .args .usd .now) (frameOf (start .args .id) (start .args .carried .now)) =
+    let start = after-on .before .before in
+    let e : c .heard .result ≡ decideFrame (start .args .self) (start .args .view) (frameOf (start .args .id) (start .args .carried .now)) =
     rw (
       ← after-on .on .ensures,
       then1 .if1 .taken,
@@ -40,8 +39,8 @@ returns c =
       ← ap (λ (s : Session). s .staged) (start .pre .1),
     ) (c .heard .ensures) in
     let g =
-    frame-can (start .args .id) (start .args .carried .now) (start .args .self) (start .args .usd .now) (start .pre .1) e
-    (start .pre .0) (start .pre .4) in
+    frame-can (start .args .id) (start .args .carried .now) (start .args .self) (start .args .view) (start .pre .1) e
+    (start .pre .0) (start .pre .3) in
     (e, g .sayable, g .fits)
 
 returns-2 : tie.Need-returns-2
@@ -49,12 +48,12 @@ unfolding decideFrame connected CC.heard if_gives_else_
 returns-2 c =
     let else1 = c .before in
     let after-on = else1 .before in
-    let start = after-on .before .before .before in
-    let e : c .unconnected .result ≡ decideFrame (start .args .self) (start .args .usd .now) (frameOf (start .args .id) (start .args .carried .now)) =
+    let start = after-on .before .before in
+    let e : c .unconnected .result ≡ decideFrame (start .args .self) (start .args .view) (frameOf (start .args .id) (start .args .carried .now)) =
     rw (← after-on .on .ensures, else1 .if1 .left) (c .unconnected .ensures) in
     let g =
-    frame-can (start .args .id) (start .args .carried .now) (start .args .self) (start .args .usd .now) (start .pre .1) e
-    (start .pre .0) (start .pre .4) in
+    frame-can (start .args .id) (start .args .carried .now) (start .args .self) (start .args .view) (start .pre .1) e
+    (start .pre .0) (start .pre .3) in
     (e, g .sayable, g .fits)
 
 pub decide-frame-spec : {M : Type 1} → statement M

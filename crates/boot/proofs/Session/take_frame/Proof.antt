@@ -6,6 +6,7 @@ use borrow.Author.Tests.{not-true, not-false}
 use lib.Dec.{leb, leb→le}
 use lib.ListN.{length}
 use Rattle.board.specs.declared.Region.the-variants.{Usd}
+use Rattle.memories.specs.Lent.{held}
 use Rattle.memories.specs.Memories.{proper}
 use Rattle.memories.proofs.Memories.{proper-length}
 use mathlib.Core.List.{List}
@@ -30,7 +31,7 @@ start c = c .before .before .before .before .before .before .before .before
 -- what the call is given
 abbrev given : tie.Start → Given
 given s =
-    givenFrame (s .args .self) (s .args .frame .now) (s .args .flash .now) (s .args .sram .now) (s .args .usd .now) (s .args .buffer .now)
+    givenFrame (s .args .self) (s .args .frame .now) (held (s .args .flash) (s .args .sram) (s .args .usd)) (s .args .buffer .now)
 
 -- a call that was not turned away is clear of every cause
 cleared : (c : tie.Else1)
@@ -66,9 +67,14 @@ gather-requires c κs =
     let firm = cleared else1 .firm in
     (sound-taken session firm, sound-expected session firm)
 
+of-requires : tie.Need-of-requires
+of-requires c κs =
+    let else1 = c .before .before .before .before in
+    proper-length (given (start else1) .state .memories) (cleared else1 .lengths) Usd
+
 decide-frame-requires : tie.Need-decide-frame-requires
 decide-frame-requires c κs =
-    let after-gather = c .before in
+    let after-gather = c .before .before in
     let after-carried = after-gather .before in
     let else1 = after-carried .before .before in
     let frame = start else1 .args .frame .now in
@@ -76,7 +82,6 @@ decide-frame-requires c κs =
     let few = ap length (after-carried .carried .ensures .0) ∙ carried-length frame (k .formed) in (
       k .firm,
       after-gather .gather .ensures,
-      proper-length (given (start else1) .state .memories) (k .lengths) Usd,
       omega (arith, few, frame-dlc frame (k .formed)),
       after-carried .carried .ensures .1,
     )
@@ -84,14 +89,14 @@ decide-frame-requires c κs =
 say-requires : tie.Need-say-requires
 say-requires c κs =
     let after-decide-frame = c .before .before .before .before .before in
-    let else1 = after-decide-frame .before .before .before .before .before in
+    let else1 = after-decide-frame .before .before .before .before .before .before in
     let k = cleared else1 in
     (k .lengths, after-decide-frame .decide-frame .ensures .1, leb→le canRoom (length (start else1 .args .buffer .now)) (k .enough))
 
 carry-out-requires : tie.Need-carry-out-requires
 carry-out-requires c κs =
     let after-decide-frame = c .before .before .before .before .before .before .before .before .before .before .before .before .before in
-    (cleared (after-decide-frame .before .before .before .before .before) .lengths, after-decide-frame .decide-frame .ensures .2)
+    (cleared (after-decide-frame .before .before .before .before .before .before) .lengths, after-decide-frame .decide-frame .ensures .2)
 
 returns-2 : tie.Need-returns-2
 unfolding causeFor decide sent
@@ -100,7 +105,8 @@ returns-2 c =
     let after-say = after-carry-out .before .before .before .before .before .before .before .before in
     let after-bears = after-say .before .before .before .before .before in
     let after-decide-frame = after-bears .before in
-    let after-gather = after-decide-frame .before .before in
+    let after-of = after-decide-frame .before in
+    let after-gather = after-of .before .before in
     let after-carried = after-gather .before in
     let after-id = after-carried .before in
     let else1 = after-id .before in
@@ -108,17 +114,17 @@ returns-2 c =
     let after-frame-cause = after-accepts .before in
     let entry = start else1 in
     let session = entry .args .self in
-    let usd = entry .args .usd .now in
+    let view = after-of .of .result in
     let decision = after-decide-frame .decide-frame .result in
     let gathers = after-gather .gather .ensures ∙ ap (λ (b : List ℕ). gathered b session) (after-carried .carried .ensures .0) in
     let decides =
-    frame-decided session usd (entry .args .frame .now) (cleared else1 .formed) (after-id .id .ensures)
+    frame-decided session view (entry .args .frame .now) (cleared else1 .formed) (after-id .id .ensures)
     (after-carried .carried .ensures .0) (after-decide-frame .decide-frame .ensures .0) in
     let under = after-bears .bears .ensures ∙ ap (λ (n : ℕ). bears session n) (after-id .id .ensures) in
     accepted-took (given entry) (after-frame-cause .frame-cause .result) (after-frame-cause .frame-cause .ensures)
     (sym (after-accepts .accepts .ensures) ∙ not-false (after-accepts .accepts .result) (else1 .if1 .left))
-    (input-leaves (given entry .input) session usd (after-gather .gather .result) gathers decision decides
-    (entry .args .flash .now) (entry .args .sram .now) (entry .args .buffer .now)
+    (input-leaves (given entry .input) (given entry .state) view (after-of .of .ensures) (after-gather .gather .result) gathers decision decides
+    (entry .args .buffer .now)
     (said-under (says commandBytes (decision .reply) (given entry .state .memories)) _ _ under (after-say .say .ensures))
     (after-carry-out .carry-out .ensures) (c .accepted .ensures))
 
@@ -133,6 +139,7 @@ take-frame-spec =
     id-requires
     carried-requires
     gather-requires
+    of-requires
     decide-frame-requires
     (λ c κs. search needs)
     say-requires

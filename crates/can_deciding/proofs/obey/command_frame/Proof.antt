@@ -14,4 +14,4 @@ command-frame-spec =
     (λ c κs. search needs)
     (λ c κs. search needs)
     (λ c. search needs)
-    (λ c. rw (no-command (c .before .before .before .before .args .id) (c .before .if1 .left)) (c .nack .ensures)))
+    (λ c. rw (no-command (c .before .before .before .args .id) (c .before .if1 .left)) (c .nack .ensures)))

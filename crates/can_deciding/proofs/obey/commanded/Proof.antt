@@ -1,6 +1,5 @@
 -- By the look-up and the DLC.
 use borrow.Author.Needs.{needs}
-use native.Mathlib.Omega.{arith}
 use mathlib.Core.Path.{sym, subst, _∙_}
 use mathlib.Core.Bool.{Bool}
 use lib.Dec.{T}
@@ -14,11 +13,9 @@ obeyed-requires : tie.Need-obeyed-requires
 obeyed-requires c κs =
     let after-lookup = c .before .before in
     let after-dlc-right = after-lookup .before .before in
-    let after-look-up = after-dlc-right .before in (
-      omega arith,
-      subst (λ (t : Bool). T t) (sym (tested _ _ _ _ _ (after-look-up .look-up .ensures) (after-lookup .lookup .given .1)
-          (after-dlc-right .dlc-right .ensures) ∙ c .if1 .taken)) tt,
-    )
+    let after-look-up = after-dlc-right .before in
+    subst (λ (t : Bool). T t) (sym (tested _ _ _ _ _ (after-look-up .look-up .ensures) (after-lookup .lookup .given .1)
+    (after-dlc-right .dlc-right .ensures) ∙ c .if1 .taken)) tt
 
 returns : tie.Need-returns
 unfolding commanded if_gives_else_

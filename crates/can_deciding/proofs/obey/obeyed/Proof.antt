@@ -11,11 +11,11 @@ use Rattle.can_deciding.proofs.obey.obeyed.Tie as tie
 
 -- the frame carries as many bytes as the command needs
 fits : (c : tie.Start) {k : Command} → c .args .command ≡ k → T (dlcFits k (length (c .args .carried .now)))
-fits c e = subst (λ (k : Command). T (dlcFits k (length (c .args .carried .now)))) e (c .pre .1)
+fits c e = subst (λ (k : Command). T (dlcFits k (length (c .args .carried .now)))) e (c .pre)
 
 address-in-requires : tie.Need-address-in-requires
 address-in-requires c κs =
-    let start = c .before .before .before .before in
+    let start = c .before .before .before in
     let h = eqb→eq (length (start .args .carried .now)) 4 (fits start (c .enum-told5 .given .1)) in
     omega arith
 
@@ -31,28 +31,28 @@ obeyed-spec =
     (λ c. search needs)
     (λ c κs. search needs)
     (λ c. search needs)
-    (λ c κs. fits (c .before .before .before .before) (c .enum-told4 .given .1))
+    (λ c κs. fits (c .before .before .before) (c .enum-told4 .given .1))
     (λ c. search needs)
     address-in-requires
     (λ c κs. search needs)
     (λ c. search needs)
-    (λ c κs. (c .before .before .before .before .pre .0, fits (c .before .before .before .before) (c .enum-told6 .given .1)))
+    (λ c κs. fits (c .before .before .before) (c .enum-told6 .given .1))
     (λ c. search needs)
-    (λ c κs. (c .before .before .before .before .pre .0, fits (c .before .before .before .before) (c .enum-told7 .given .1)))
+    (λ c κs. fits (c .before .before .before) (c .enum-told7 .given .1))
     (λ c. search needs)
-    (λ c κs. fits (c .before .before .before .before) (c .enum-told8 .given .1))
-    (λ c. search needs)
-    (λ c κs. search needs)
+    (λ c κs. fits (c .before .before .before) (c .enum-told8 .given .1))
     (λ c. search needs)
     (λ c κs. search needs)
     (λ c. search needs)
     (λ c κs. search needs)
     (λ c. search needs)
-    (λ c κs. fits (c .before .before .before .before) (c .enum-told12 .given .1))
+    (λ c κs. search needs)
+    (λ c. search needs)
+    (λ c κs. fits (c .before .before .before) (c .enum-told12 .given .1))
     (λ c. search needs)
     (λ c κs. search needs)
     (λ c. search needs)
-    (λ c κs. fits (c .before .before .before .before) (c .enum-told14 .given .1))
+    (λ c κs. fits (c .before .before .before) (c .enum-told14 .given .1))
     (λ c. rw (c .before .enum-told .given .1) (c .tell .ensures))
     (λ c. rw (c .before .enum-told2 .given .1) (c .tell2 .ensures))
     (λ c. rw (c .before .enum-told3 .given .1) (c .tell3 .ensures))

@@ -10,8 +10,8 @@ use Rattle.can_deciding.proofs.obey.write_memory.Tie as tie
 
 shared-slice-read-count-of : tie.Need-shared-slice-read-count-of
 shared-slice-read-count-of c =
-    let start = c .before .before .before .before in
-    let h = eqb→eq (length (start .args .carried .now)) 5 (start .pre .1) in
+    let start = c .before .before .before in
+    let h = eqb→eq (length (start .args .carried .now)) 5 (start .pre) in
     omega arith
 
 returns : tie.Need-returns
@@ -22,8 +22,8 @@ returns c =
     let after-write-verdict = after-number .before in
     let after-count-of = after-write-verdict .before in
     let after-address-in = after-count-of .before .before in
-    let start = after-address-in .before .before .before in
-    rw (last-number 4 (start .args .carried .now) (eqb→eq (length (start .args .carried .now)) 5 (start .pre .1)))
+    let start = after-address-in .before .before in
+    rw (last-number 4 (start .args .carried .now) (eqb→eq (length (start .args .carried .now)) 5 (start .pre)))
     (rw (
       after-write-verdict .write-verdict .ensures,
       after-answer .answer .ensures,
@@ -36,7 +36,7 @@ pub write-memory-spec : {M : Type 1} → statement M
 write-memory-spec =
     tie.close
     (tie.spec
-    (λ c κs. let h = eqb→eq (length (c .before .before .args .carried .now)) 5 (c .before .before .pre .1) in omega arith)
+    (λ c κs. let h = eqb→eq (length (c .before .args .carried .now)) 5 (c .before .pre) in omega arith)
     shared-slice-read-count-of
     (λ c κs. search needs)
     (λ c κs. search needs)

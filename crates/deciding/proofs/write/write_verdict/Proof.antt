@@ -14,12 +14,12 @@ flash-verdict-requires : tie.Need-flash-verdict-requires
 flash-verdict-requires c κs =
     let after-place2 = c .before .before .before in
     let after-place = after-place2 .before .before in
-    let start = after-place .before .before .before .before in
+    let start = after-place .before .before .before in
     let at = after-place2 .place2 .given .0 .1 .0 in
     let h =
     lies (start .args .address) (start .args .x) Flash at (sym (after-place .place .ensures) ∙ after-place2 .place2 .given .1 ∙ ap
     (λ (r : Region). In r at) (c .enum-told .given .1)) in
-    (omega arith, omega arith, omega (arith, h .from, h .to, h .offset))
+    (omega arith, omega (arith, h .from, h .to, h .offset))
 
 returns : tie.Need-returns
 unfolding writeVerdict writeVerdictAt

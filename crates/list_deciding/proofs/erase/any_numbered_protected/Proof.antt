@@ -10,41 +10,39 @@ use lib.Dec.{T}
 use Rattle.words.specs.Lists.{any, all}
 use Rattle.words.proofs.Tests.{both-left, both-right}
 use Rattle.board.specs.Quantities.{sector, isSector, numbered}
-use Rattle.board.specs.Usd.{writeProtected}
+use Rattle.board.specs.View.{writeProtected}
 use Rattle.board.specs.declared.Sector.{Sector}
 use Rattle.board.proofs.InOrder.{numbered-first}
 use Rattle.list_deciding.proofs.erase.any_numbered_protected.Statement.{statement}
 use Rattle.list_deciding.proofs.erase.any_numbered_protected.Tie as tie
 
 abbrev Inv-loop : tie.InvT-loop
-Inv-loop usd staged x end j₀ j =
+Inv-loop view staged x end j₀ j =
     (j ≤ end)
     × (j % 2 ≡ 0)
     × T (all isSector (numbered (slice j end staged)))
-    × (any (writeProtected usd) (numbered (slice j end staged)) ≡ any (writeProtected usd) (numbered (take end staged)))
+    × (any (writeProtected view) (numbered (slice j end staged)) ≡ any (writeProtected view) (numbered (take end staged)))
 
 abbrev μ-loop : tie.MeasureT-loop
-μ-loop usd staged x end j₀ j = end - j
+μ-loop view staged x end j₀ j = end - j
 
 write-protected-requires : tie.Need-write-protected-requires Inv-loop μ-loop
 write-protected-requires c κs =
     let at-loop = c .before .before .before .before in
-    let start = at-loop .before .before .before in
+    let start = at-loop .before .before in
     let k = c .number2 .result in
     let f =
     numbered-first (start .args .staged .now) (at-loop .loop .j) (2 * start .args .x) k (c .number2 .ensures) (omega arith)
-    (omega arith) in (
-      omega arith,
-      both-left (isSector (sector k)) (all isSector (numbered (slice (at-loop .loop .j + 2) (2 * start .args .x)
-          (start .args .staged .now)))) (subst (λ (l : List Sector). T (all isSector l)) f (at-loop .loop .inv .2)),
-    )
+    (omega arith) in
+    both-left (isSector (sector k)) (all isSector (numbered (slice (at-loop .loop .j + 2) (2 * start .args .x)
+    (start .args .staged .now)))) (subst (λ (l : List Sector). T (all isSector l)) f (at-loop .loop .inv .2))
 
 returns : tie.Need-returns Inv-loop μ-loop
 returns c =
     let after-write-protected = c .before in
     let after-number2 = after-write-protected .before in
     let at-loop = after-number2 .before .before .before .before in
-    let start = at-loop .before .before .before in
+    let start = at-loop .before .before in
     rw (
       ← at-loop .loop .inv .3,
       numbered-first (start .args .staged .now) (at-loop .loop .j) (2 * start .args .x)
@@ -58,7 +56,7 @@ loop-again c =
     let after-write-protected = c .before in
     let after-number2 = after-write-protected .before in
     let at-loop = after-number2 .before .before .before .before in
-    let start = at-loop .before .before .before in
+    let start = at-loop .before .before in
     let k = after-number2 .number2 .result in
     let f =
     numbered-first (start .args .staged .now) (at-loop .loop .j) (2 * start .args .x) k (after-number2 .number2 .ensures) (omega arith)
@@ -73,7 +71,7 @@ loop-again c =
 returns-2 : tie.Need-returns-2 Inv-loop μ-loop
 returns-2 c =
     let at-loop = c .before in
-    let start = at-loop .before .before .before in
+    let start = at-loop .before .before in
     let e : at-loop .loop .j ≡ 2 * start .args .x = omega arith in
     rw (e, slice-empty) at (at-loop .loop .inv .3)
 
@@ -84,7 +82,7 @@ any-numbered-protected-spec =
     Inv-loop
     μ-loop
     (λ c. omega arith)
-    (λ c. (omega arith, refl, c .before .before .pre .2, refl))
+    (λ c. (omega arith, refl, c .before .pre .1, refl))
     (λ c. omega arith)
     (λ c. omega arith)
     (λ c. omega arith)

@@ -37,6 +37,6 @@ erase-verdict-spec =
     (tie.spec
     (λ c κs. search needs)
     (λ c. rw (sym (c .before .all-numbered .ensures) ∙ not-true _ (c .if1 .taken)))
-    (λ c κs. (omega arith, omega arith, subst T (sym (sym (c .before .all-numbered .ensures) ∙ not-false _ (c .if1 .left))) tt))
+    (λ c κs. (omega arith, subst T (sym (sym (c .before .all-numbered .ensures) ∙ not-false _ (c .if1 .left))) tt))
     returns-2
     returns-3)

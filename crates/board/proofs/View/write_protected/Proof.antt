@@ -3,9 +3,9 @@ use borrow.Author.Needs.{needs}
 use native.Mathlib.Omega.{arith}
 use lib.Bits.{and-mask}
 use lib.Dec.{ltb→lt}
-use Rattle.board.specs.Usd.{writeProtected}
-use Rattle.board.proofs.usd.write_protected.Statement.{statement}
-use Rattle.board.proofs.usd.write_protected.Tie as tie
+use Rattle.board.specs.View.{writeProtected}
+use Rattle.board.proofs.View.write_protected.Statement.{statement}
+use Rattle.board.proofs.View.write_protected.Tie as tie
 
 pub write-protected-spec : {M : Type 1} → statement M
 unfolding writeProtected
@@ -13,8 +13,7 @@ write-protected-spec =
     tie.close
     (tie.spec
     (λ c. search needs)
-    (λ c. search needs)
-    (λ c. let h = ltb→lt (c .before .args .sector .0) 32 (c .before .pre .1) in omega arith)
+    (λ c. let h = ltb→lt (c .before .args .sector .0) 32 (c .before .pre) in omega arith)
     (λ c. omega (arith, and-mask (c .before .args .sector .0) 3))
     (λ c. omega (arith, and-mask (c .before .args .sector .0) 3))
     (λ c. rw (and-mask (c .before .args .sector .0) 3, and-mask _ 1)))

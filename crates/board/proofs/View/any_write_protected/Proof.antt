@@ -5,27 +5,27 @@ use Prim.Native.Nat.{_+_}
 use lib.Dec.{lt→ltb}
 use Rattle.words.specs.Lists.{any}
 use Rattle.board.specs.Quantities.{sector, sectorsFrom}
-use Rattle.board.specs.Usd.{writeProtected}
+use Rattle.board.specs.View.{writeProtected}
 use Rattle.board.proofs.InOrder.{any-first}
-use Rattle.board.proofs.usd.any_write_protected.Statement.{statement}
-use Rattle.board.proofs.usd.any_write_protected.Tie as tie
+use Rattle.board.proofs.View.any_write_protected.Statement.{statement}
+use Rattle.board.proofs.View.any_write_protected.Tie as tie
 
 abbrev Inv-loop : tie.InvT-loop
-Inv-loop usd n k₀ left₀ k left =
+Inv-loop self n k₀ left₀ k left =
     (k + left ≡ k₀ + left₀)
-    × (any (writeProtected usd) (sectorsFrom (sector k) left) ≡ any (writeProtected usd) (sectorsFrom (sector k₀) left₀))
+    × (any (writeProtected self) (sectorsFrom (sector k) left) ≡ any (writeProtected self) (sectorsFrom (sector k₀) left₀))
 
 abbrev μ-loop : tie.MeasureT-loop
-μ-loop usd n k₀ left₀ k left = left
+μ-loop self n k₀ left₀ k left = left
 
 returns : tie.Need-returns Inv-loop μ-loop
 returns c =
     let after-write-protected = c .before in
     let at-loop = after-write-protected .before .before in
-    let start = at-loop .before .before in
+    let start = at-loop .before in
     rw (
       ← at-loop .loop .inv .1,
-      any-first (writeProtected (start .args .usd .now)) (at-loop .loop .k) (at-loop .loop .left) (omega arith),
+      any-first (writeProtected (start .args .self)) (at-loop .loop .k) (at-loop .loop .left) (omega arith),
       ← after-write-protected .write-protected .ensures,
       c .if1 .taken,
     )
@@ -34,10 +34,10 @@ loop-again : tie.Need-loop-again Inv-loop μ-loop
 loop-again c =
     let after-write-protected = c .before in
     let at-loop = after-write-protected .before .before in
-    let start = at-loop .before .before in (
+    let start = at-loop .before in (
       omega arith,
       rw (
-        any-first (writeProtected (start .args .usd .now)) (at-loop .loop .k) (at-loop .loop .left) (omega arith),
+        any-first (writeProtected (start .args .self)) (at-loop .loop .k) (at-loop .loop .left) (omega arith),
         ← after-write-protected .write-protected .ensures,
         c .if1 .left,
       ) at (at-loop .loop .inv .1),
@@ -50,7 +50,7 @@ any-write-protected-spec =
     Inv-loop
     μ-loop
     (λ c. (refl, refl))
-    (λ c κs. (omega arith, lt→ltb (c .before .loop .k) 32 (omega arith)))
+    (λ c κs. lt→ltb (c .before .loop .k) 32 (omega arith))
     returns
     (λ c. omega arith)
     (λ c. omega arith)
