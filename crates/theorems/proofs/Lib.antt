@@ -1,4 +1,5 @@
 pub mod Talk
+pub mod Longest
 pub mod Locked
 pub mod Secrecy
 pub mod Runs

@@ -1,6 +1,7 @@
 // What is proved of the definitions alone. Nothing is run here: each function's promise is a statement of specs/, so that a check fails where its
 // proof is missing.
 ghost use Rattle.theorems.specs.Talk.{WorkedTalk};
+ghost use Rattle.theorems.specs.Longest.{NoLongerCommand};
 ghost use Rattle.theorems.specs.Secrecy.{OpensExactly, Demand3};
 ghost use Rattle.theorems.specs.Runs.{RunsOnce, Demand3OfCode};
 ghost use Rattle.theorems.specs.Determined.{Determined};
@@ -9,6 +10,11 @@ ghost use Rattle.theorems.specs.Failures.{OnlyNamedBytes, EraseAllOrNoth
 // Every starred row of the worked talk is answered as the paper has it.
 pub fn worked_talk()
     ensures { λ _. ⌜ WorkedTalk ⌝ }
+{}
+
+// No command on UART takes over 265 bytes to its last answer, and a write of 256 bytes takes as many.
+pub fn no_longer_command()
+    ensures { λ _. ⌜ NoLongerCommand ⌝ }
 {}
 
 // Demand 3: two locked boards, given the same calls, leave the same to be seen until an obeyed Access Unprotect, and the same in everything after it.

@@ -6,12 +6,8 @@ use Prim.Native.Nat.{ℕ, _%_, _≤_}
 use native.Mathlib.Omega.{arith}
 use lib.Dec.{T, eqb, leb, leb→le, eqb→eq}
 use lib.ListN.{length}
-use Rattle.words.specs.Lists.{all, countFrom}
+use Rattle.words.specs.Lists.{countFrom}
 use Rattle.words.proofs.Tests.{both-left, both-right}
-use Rattle.command.specs.Commands.{uartCommands}
-use Rattle.command.specs.declared.Command.{Command}
-use Rattle.command.specs.declared.Command.the-variants.{WriteMemory}
-use Rattle.uart.specs.Conversation.{bytesTo}
 use Rattle.uart.specs.Steps.{stepNo, steps, stepOf, expects}
 use denote.Enum.Declared.{tagOf}
 use Rattle.uart.proofs.Step.{the-type}
@@ -36,13 +32,6 @@ read-back EraseList = refl
 read-back ProtectLength = refl
 read-back ProtectList = refl
 read-back CrcCount = refl
-
--- no command takes over 265 bytes to its last answer, and a write of 256 bytes takes as many
-pub no-longer-command : T (all (λ (c : Command). leb (bytesTo c) 265) uartCommands)
-no-longer-command = tt
-
-pub longest-command : bytesTo WriteMemory ≡ 265
-longest-command = refl
 
 -- ---- what a step of some length may expect
 

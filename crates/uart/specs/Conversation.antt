@@ -5,8 +5,8 @@ use mathlib.Core.List.{List, [], _∷_, _++_, map}
 use lib.ListN.{length, getD, take}
 use lib.Dec.{eqb}
 use Rattle.words.specs.Bytes.{complement, xorAll, number, twoBytes}
-use Rattle.board.specs.Board.{address, identity, sectors}
-use Rattle.board.specs.Quantities.{largestCount, countOf, lessOne, oneLess, addressBytes, selectorBytes, longCountBytes, numbersBytes}
+use Rattle.board.specs.Board.{address, identity}
+use Rattle.board.specs.Quantities.{countOf, lessOne, oneLess, addressBytes, selectorBytes, longCountBytes, numbersBytes}
 use Rattle.command.specs.Says.{replyRoom}
 use Rattle.board.specs.Regions.{known, sectorStart}
 use Rattle.constants.specs.declared.Address.{Address}
@@ -136,20 +136,3 @@ unfoldable pub heard : Step → Progress → View → ℕ → Decision
 heard s p view b =
     if short p (b ∷ []) gives answer Silence Gather
     else complete s (p .expected) (p .address) (stagedWith p (b ∷ [])) view
-
--- the bytes that a command takes at most to its last answer: its own two, and what its steps expect
-abbrev pub bytesTo : Command → ℕ
-bytesTo GetCommands = complementedByte
-bytesTo GetVersion = complementedByte
-bytesTo GetDeviceId = complementedByte
-bytesTo ReadMemory = complementedByte + checkedAddress + complementedByte
-bytesTo Jump = complementedByte + checkedAddress
-bytesTo WriteMemory = complementedByte + checkedAddress + oneByte + expectedFor largestCount
-bytesTo Erase = complementedByte + selectorBytes + expectedForNumbers (sectors .count)
-bytesTo ProgramProtect = complementedByte + oneByte + expectedFor largestCount
-bytesTo ProgramUnprotect = complementedByte
-bytesTo AccessProtect = complementedByte
-bytesTo AccessUnprotect = complementedByte
-bytesTo FirmwareCrc = complementedByte + checkedAddress + checkedCount
-bytesTo ResetDevice = complementedByte
-bytesTo Speed = complementedByte
