@@ -3,7 +3,7 @@ use Prim.Native.Nat.{ℕ}
 use Prim.Native.String.{String}
 use mathlib.Core.Path.{_≡_}
 use mathlib.Core.List.{List, [], _∷_, _++_, map}
-use lib.ListN.{replicate, set}
+use lib.ListN.{length, replicate, set}
 use Rattle.words.specs.Hex.{hex}
 use Rattle.words.specs.Lists.{join, part}
 use Rattle.board.specs.Board as B
@@ -11,6 +11,7 @@ use Rattle.board.specs.declared.Region.the-variants.{Flash, Usd}
 use Rattle.memories.specs.Memories.{Memories, memories, withBytes, freshUsd, freshMemories}
 use Rattle.uart.specs.Conversation.{uartRoom}
 use Rattle.can.specs.Conversation.{canRoom}
+use Rattle.boot.specs.Causes.{causeNo}
 use Rattle.boot.specs.Calls.{State, powered, Input, Byte, Framed, Outcome, outcomes, run}
 
 -- ---- boards
@@ -97,26 +98,40 @@ shows board exchanges look seen = record { board = board; exchanges = exchanges;
 abbrev pub answers : State → List Exchange → Talk
 answers board exchanges = shows board exchanges nothing []
 
--- what is answered to each exchange, and seen
+-- what comes of an exchange: the number of each call, and the bytes of all replies
+pub record Exchanged : Type 0 where
+  pub numbers : List ℕ
+  pub answered : List ℕ
+
+-- what comes of each exchange, and what is seen
 pub record Heard : Type 0 where
-  pub answered : List (List ℕ)
+  pub exchanged : List Exchanged
   pub seen : List ℕ
 
--- as the paper has it
+-- as the paper has it: every call is accepted, which is number 0
+abbrev pub exchangedOnPaper : Exchange → Exchanged
+exchangedOnPaper e = record { numbers = replicate (length (e .inputs)) 0; answered = e .answered }
+
 abbrev pub paper : Talk → Heard
-paper t = record { answered = map (λ (e : Exchange). e .answered) (t .exchanges); seen = t .seen }
+paper t = record { exchanged = map exchangedOnPaper (t .exchanges); seen = t .seen }
 
 -- as the definitions have it
-unfoldable pub replies : List Exchange → State → List (List ℕ)
-replies [] p = []
-replies (e ∷ es) p = join (map (λ (o : Outcome). o .reply) (outcomes (e .inputs) p)) ∷ replies es (run (e .inputs) p)
+abbrev pub exchangedBy : List Outcome → Exchanged
+exchangedBy os = record {
+  numbers = map (λ (o : Outcome). causeNo (o .cause)) os;
+  answered = join (map (λ (o : Outcome). o .reply) os);
+}
+
+unfoldable pub exchangesOf : List Exchange → State → List Exchanged
+exchangesOf [] p = []
+exchangesOf (e ∷ es) p = exchangedBy (outcomes (e .inputs) p) ∷ exchangesOf es (run (e .inputs) p)
 
 unfoldable pub ends : List Exchange → State → State
 ends [] p = p
 ends (e ∷ es) p = ends es (run (e .inputs) p)
 
 unfoldable pub board : Talk → Heard
-board t = record { answered = replies (t .exchanges) (t .board); seen = t .look (ends (t .exchanges) (t .board) .memories) }
+board t = record { exchanged = exchangesOf (t .exchanges) (t .board); seen = t .look (ends (t .exchanges) (t .board) .memories) }
 
 -- the starred rows
 abbrev pub starred : List Talk
@@ -133,6 +148,10 @@ starred =
     ∷ shows sectorOneProtected
     (connectUart ∷ uart "31 CE" "79" ∷ uart "08 00 03 FF F4" "79" ∷ uart "01 AA 0F A4" "1F" ∷ [])
     (flashAt 1022 4) (hex "FF FF FF FF")
+    ∷ answers freshBoard
+    (connectUart ∷ uart "11 EE" "79" ∷ uart "08 00 7F FF 88" "79" ∷ uart "00 FF" "79 FF" ∷ [])
+    ∷ answers freshBoard
+    (connectUart ∷ uart "11 EE" "79" ∷ uart "08 00 7F FF 88" "79" ∷ uart "01 FE" "1F" ∷ [])
     ∷ shows freshBoard
     (connectUart ∷ uart "31 CE" "79" ∷ uart "08 00 7F FF 88" "79" ∷ uart "00 12 12" "79" ∷ [])
     (flashAt 32766 2) (hex "FF 12")
@@ -148,6 +167,9 @@ starred =
     ∷ shows freshBoard
     (connectUart ∷ uart "63 9C 01 00 1F 1E" "79 79" ∷ connectUart ∷ uart "63 9C" "79" ∷ uart "00 03 03" "79" ∷ [])
     (usdAt 7 6) (hex "FF F7 FF FF FF FF")
+    ∷ shows freshBoard
+    (connectUart ∷ uart "44 BB" "79" ∷ uart "00 00 00 20 20" "1F" ∷ [])
+    flashOf (replicate (B.flash .bytes) 0xFF)
     ∷ shows loadedBoard
     (connectUart ∷ uart "44 BB" "79" ∷ uart "00 00 00 20 20" "1F" ∷ [])
     flashOf (replicate (B.flash .bytes) 0x5A)
@@ -156,10 +178,9 @@ starred =
     ∷ can "00 31 05 08 00 00 00 02 00 00 00" "00 31 01 79 00 00 00 00 00 00 00"
     ∷ can "00 31 08 01 02 03 04 05 06 07 08" "00 31 01 79 00 00 00 00 00 00 00" ∷ [])
     (flashAt 0 9) (hex "01 02 03 FF FF FF FF FF FF")
-    ∷ answers lockedBoard (connectUart ∷ uart "11 EE" "1F" ∷ [])
-    ∷ shows lockedBoard (connectUart ∷ uart "92 6D" "79 79" ∷ []) everything wipedClean
+    ∷ shows lockedBoard (connectUart ∷ uart "11 EE" "1F" ∷ uart "92 6D" "79 79" ∷ []) everything wipedClean
     ∷ []
 
--- every row is answered and seen as the paper has it
+-- in every row each call has the number, the answers and what is seen that the paper has
 abbrev pub WorkedTalk : Type 0
 WorkedTalk = map board starred ≡ map paper starred
