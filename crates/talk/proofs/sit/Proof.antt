@@ -5,7 +5,9 @@ use mathlib.Core.Path.{_≡_, refl, sym, _∙_}
 use Prim.Native.Nat.{_≤_, _+_, _*_, _^_}
 use lib.ListN.{length}
 use lib.Seq.{length-take-le}
-use Rattle.talk.specs.Turns.{readCharacters, Ready}
+use Rattle.hearing.specs.Promise.{deskOf}
+use Rattle.talk.specs.Turns.{readCharacters, Ready, HasHeard}
+use Rattle.talk.proofs.Hearing.{sits-down, one-more, gets-up}
 use Rattle.talk.proofs.sit.Statement.{statement}
 use Rattle.talk.proofs.sit.Tie as tie
 
@@ -18,6 +20,7 @@ Inv-loop from to line₀ flash₀ sram₀ usd₀ out₀ desk₀ turns₀ line fl
     × (length sram ≡ length sram₀)
     × (length usd ≡ length usd₀)
     × (length out ≡ length out₀)
+    × HasHeard (deskOf desk line flash sram usd)
 
 abbrev μ-loop : tie.MeasureT-loop
 μ-loop from to line₀ flash₀ sram₀ usd₀ out₀ desk₀ turns₀ line flash sram usd out desk turns = turns
@@ -32,6 +35,7 @@ loop-holds c =
       refl,
       refl,
       refl,
+      sits-down _ (start .args .line .now) _ _ _ (c .power-on .ensures .session) (start .pre .2),
     )
 
 turn-requires : tie.Need-turn-requires Inv-loop μ-loop
@@ -44,13 +48,14 @@ loop-again c =
     let after-turn = c .before .before .before .before .before .before .before .before .before .before .before .before in
     let at-loop = after-turn .before .before .before .before .before .before .before in
     let k = after-turn .turn .kept in (
-      after-turn .turn .ensures .0,
-      omega (arith, after-turn .turn .ensures .1, c .turns-left .ensures, at-loop .loop .inv .1),
+      after-turn .turn .ensures .0 .0,
+      omega (arith, after-turn .turn .ensures .0 .1, c .turns-left .ensures, at-loop .loop .inv .1),
       k .1 .1 .1 .0 ∙ at-loop .loop .inv .2,
       k .1 .1 .1 .1 .0 ∙ at-loop .loop .inv .3,
       k .1 .1 .1 .1 .1 .0 ∙ at-loop .loop .inv .4,
       k .1 .1 .1 .1 .1 .1 .0 ∙ at-loop .loop .inv .5,
       k .1 .1 .1 .1 .1 .1 .1 .0 ∙ at-loop .loop .inv .6,
+      one-more (at-loop .loop .inv .7) (after-turn .turn .ensures .1),
     )
 
 finish-requires : tie.Need-finish-requires Inv-loop μ-loop
@@ -99,6 +104,12 @@ same-length-5 c =
     let at-loop = after-finish .before .before .before .before .before .before .before in
     after-finish .finish .kept .1 .1 .1 .1 .1 .0 ∙ at-loop .loop .inv .6
 
+returns : tie.Need-returns Inv-loop μ-loop
+returns c =
+    let after-finish = c .before .before .before .before .before .before .before .before .before .before in
+    let at-loop = after-finish .before .before .before .before .before .before .before in
+    gets-up (at-loop .loop .inv .7) (after-finish .finish .ensures .0 .state)
+
 pub sit-spec : {M : Type 1} → statement M
 sit-spec =
     tie.close
@@ -120,4 +131,4 @@ sit-spec =
     same-length-3
     same-length-4
     same-length-5
-    (λ c. search needs))
+    returns)
