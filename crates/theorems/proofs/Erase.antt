@@ -1,6 +1,6 @@
 -- The club's failure (b): a refusal changes no memory, and neither does an input after which the erase is still coming in,
 -- since a decision that changes one also accepts and ends the command.
-use mathlib.Core.Path.{_≡_, refl, _∙_}
+use mathlib.Core.Path.{_≡_, refl, ap₂, _∙_, subst}
 use mathlib.Core.Bool.{Bool, true, false, not, _&&_, _||_}
 use mathlib.Core.List.{List, [], _∷_}
 use Prim.Native.Nat.{ℕ}
@@ -9,7 +9,7 @@ use Rattle.words.specs.Choice.{if_then_else_}
 use Rattle.words.specs.Lists.{any, all}
 use Rattle.board.specs.Quantities.{isSector}
 use Rattle.board.specs.View.{writeProtected}
-use Rattle.words.proofs.Tests.{both-left, both-right}
+use Rattle.words.proofs.Tests.{both-left, both-right, holds-true}
 use Rattle.memories.specs.Memories.{Memories}
 use Rattle.memories.specs.Effects.{effect}
 use Rattle.memories.specs.declared.Change.{Change}
@@ -27,9 +27,10 @@ use Rattle.carriers.specs.declared.Carrier.{Carrier}
 use Rattle.carriers.specs.declared.Carrier.the-variants.{None, Uart, Can, Running}
 use Rattle.boot.specs.declared.Cause.{Cause}
 use Rattle.boot.specs.declared.Session.{Session}
-use Rattle.theorems.specs.Failures.{acks, refuses, isRefused, inErase, erasePending, inEraseList, toErase, EraseAllOrNothing}
+use Rattle.theorems.specs.Failures.{acks, acked, refuses, isRefused, inErase, erasePending, inEraseList, toErase, EraseAllOrNothing}
 use Rattle.command.proofs.Holds.{Holds}
 use Rattle.theorems.proofs.Listed.{erasable, decide-erase}
+use Rattle.theorems.proofs.Wire.{number-accepts, on-the-wire}
 use Rattle.theorems.proofs.Honest.{isNothing, ends, Honest, decide-honest}
 
 -- no change leaves the memories
@@ -105,7 +106,10 @@ refused-call : (i : Input) (p : State) → T (isRefused i p) → call i p .state
 unfolding done call
 refused-call i p k =
     refused-leaves i p (causeFor i p) (decide i (p .session) (viewIn p)) (decide-honest i (p .session) (viewIn p))
-    (accepts (causeFor i p)) k
+    (accepts (causeFor i p)) (subst T seen-refused k)
+  where
+    seen-refused : isRefused i p ≡ (not (accepts (causeFor i p)) || refuses (done i p .reply))
+    seen-refused = ap₂ (λ (t u : Bool). not t || u) (number-accepts i p) (on-the-wire .refusal i p)
 
 erase-call : (i : Input) (p : State) → T (inErase (call i p .state .session)) → call i p .state .memories ≡ p .memories
 unfolding call
@@ -121,12 +125,12 @@ erase-run (i ∷ is) p k =
     ∙ erase-call i p (both-left (inErase (call i p .state .session)) (erasePending is (call i p .state)) k)
 
 -- a list that is accepted
-accepted-list : (i : Input) (p : State) → T (inEraseList (p .session)) → T (acks (done i p .reply))
+accepted-list : (i : Input) (p : State) → T (inEraseList (p .session)) → T (acked i (call i p .reply))
     → T (all isSector (toErase i (p .session))) × T (not (any (writeProtected (viewIn p)) (toErase i (p .session))))
 unfolding done if_gives_else_
 accepted-list i p h a =
     let ks = toErase i (p .session) in
-    let g : T (erasable (viewIn p) ks) = decide-erase i (p .session) (viewIn p) h (by-test (accepts (causeFor i p)) a) in (
+    let g : T (erasable (viewIn p) ks) = decide-erase i (p .session) (viewIn p) h (by-test (accepts (causeFor i p)) (subst T (on-the-wire .acceptance i p (rw (holds-true (inEraseList (p .session)) h) tt)) a)) in (
       both-left (all isSector ks) (not (any (writeProtected (viewIn p)) ks)) g,
       both-right (all isSector ks) (not (any (writeProtected (viewIn p)) ks)) g,
     )

@@ -13,11 +13,11 @@ use Rattle.command.specs.declared.Next.{Next}
 use Rattle.command.specs.declared.Next.the-variants.{Stay, Reset, Gather, GoIdle, SetSpeed, Enter, EnterAt, Run}
 use Rattle.command.specs.declared.Reply.the-variants.{Ack}
 use Rattle.rules.specs.Rules.{afterWrite}
-use Rattle.boot.specs.Calls.{Input, decide}
+use Rattle.boot.specs.Calls.{Input, Power, Byte, Framed, decide}
 use Rattle.boot.specs.declared.Session.{Session}
 use Rattle.theorems.specs.Failures.{refuses}
 use Rattle.command.proofs.Holds.{Holds}
-use Rattle.theorems.proofs.Made.{Parts, decide-made}
+use Rattle.theorems.proofs.Made.{Parts, Sole, OnInput, decide-made}
 
 -- no memory changes
 abbrev pub isNothing : Change → Bool
@@ -47,7 +47,7 @@ Honest d = T (isNothing (d .change) || (not (refuses (d .reply)) && ends (d .nex
 
 made : Parts Honest
 made = record {
-  told = record { holds = tt };
+  told = λ h. record { holds = tt };
   written = written;
   erased = λ x. record { holds = tt };
   cleared = record { holds = tt };
@@ -62,5 +62,18 @@ made = record {
     written Sram at x = record { holds = tt }
     written Usd at x = record { holds = tt }
 
+sole : {u r c e : Type 0} → Sole Honest u r c e
+sole = record {
+  unlocked = λ h. record { holds = tt };
+  read = λ h r at x. record { holds = tt };
+  summed = λ h at n. record { holds = tt };
+  halved = λ h w. record { holds = tt };
+}
+
 pub decide-honest : (i : Input) (s : Session) (view : View) → Holds Honest (decide i s view)
-decide-honest = decide-made Honest made (record { holds = tt })
+decide-honest i s view = decide-made Honest made i s view (by-input i)
+  where
+    by-input : (i : Input) → OnInput Honest i s
+    by-input Power = tt
+    by-input (Byte room b) = λ o. sole
+    by-input (Framed room l) = λ o. sole

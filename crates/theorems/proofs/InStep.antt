@@ -1,25 +1,33 @@
 -- What it says of a session that it is in a step of a carrier: it is on no other carrier, and its step is that one.
-use mathlib.Core.Path.{_≡_, sym, _∙_}
+use mathlib.Core.Path.{_≡_, sym, _∙_, subst}
 use mathlib.Core.Bool.{Bool, true, false, not, _&&_, _||_, or-comm}
-use mathlib.Core.List.{List}
-use Prim.Native.Nat.{ℕ}
+use mathlib.Core.List.{List, [], _∷_, map}
+use Prim.Native.Nat.{ℕ, zero, suc, _+_, _<_}
+use native.Mathlib.Nat.{le-of-suc-le-suc, not-suc-le-zero}
 use native.Mathlib.Omega.{arith}
-use lib.Dec.{T, not-T, eqb, eqb→eq}
+use lib.Dec.{T, not-T, eqb, leb, ltb, eqb→eq, ltb→lt, nltb→le}
+use lib.ListN.{length, getD}
 use Rattle.words.specs.Choice.{if_then_else_}
-use Rattle.words.proofs.Tests.{both-left}
+use Rattle.words.specs.Lists.{countFrom}
+use Rattle.words.proofs.Tests.{both-left, holds-true}
 use Rattle.board.specs.declared.View.{View}
 use Rattle.memories.specs.Memories.{proper}
 use Rattle.command.specs.Decision.{answer}
+use Rattle.command.specs.Progress.{short}
 use Rattle.command.specs.declared.Decision.{Decision}
 use Rattle.command.specs.declared.Next.the-variants.{Stay, GoIdle}
 use Rattle.command.specs.declared.Reply.the-variants.{Silence, Ack}
 use Rattle.uart.specs.Steps as U
 use Rattle.uart.specs.Conversation as UC
+use Rattle.uart.specs.declared.Step as US
+use Rattle.uart.proofs.Steps as UP
 use Rattle.can.specs.Steps as C
 use Rattle.can.specs.Conversation as CC
-use Rattle.frames.specs.Frames.{frameIn}
-use Rattle.boot.specs.Session.{on, progress}
-use Rattle.carriers.specs.Carriers.{carrierNo}
+use Rattle.can.specs.declared.Step as CS
+use Rattle.can.proofs.Steps as CP
+use Rattle.frames.specs.Frames.{classic, isFrame, frameIn}
+use Rattle.boot.specs.Session.{on, sound, progress}
+use Rattle.carriers.specs.Carriers.{carrierNo, stepSound}
 use Rattle.boot.specs.Decide.{connected, decideByte, decideFrame}
 use Rattle.boot.specs.Causes.{causeOf, accepts}
 use Rattle.boot.specs.Calls.{State, Input, Power, Byte, Framed, causeFor, decide}
@@ -28,6 +36,8 @@ use Rattle.carriers.specs.declared.Carrier.the-variants.{None, Uart, Can}
 use Rattle.boot.specs.declared.Cause.{Cause}
 use Rattle.boot.specs.declared.Cause.the-variants.{WrongMemory}
 use Rattle.boot.specs.declared.Session.{Session}
+use Rattle.boot.proofs.Causes.{accepted-clear}
+use Rattle.boot.proofs.Sound.{sound-taken, sound-step, uart-expects}
 use Rattle.command.proofs.Holds.{Holds, split}
 
 -- a session is on one carrier
@@ -84,6 +94,41 @@ module _ (s : Session) (view : View) (m n : ℕ) (h : T ((on Uart s && eqb (s .s
       (f (not-T (on Uart s) (λ u. one-carrier Uart Can s (λ e. omega arith) u o))))
       (λ o. absurd (not-unconnected s m n h o)) q
 
+-- ---- the step of a sound session
+
+-- of a list that is numbered in its order each element has the number of its place
+numbered : {A : Type 0} (number : A → ℕ) (d : A) (l : List A) (k : ℕ) → map number l ≡ countFrom k (length l) → (n : ℕ) → n < length l
+    → number (getD l n d) ≡ k + n
+numbered number d [] k e n h = absurd (not-suc-le-zero h)
+numbered number d (x ∷ l) k e zero h = let f : number x ≡ k = cc in omega arith
+numbered number d (x ∷ l) k e (suc n) h =
+    let f : map number l ≡ countFrom (suc k) (length l) = cc in
+    let g : number (getD l n d) ≡ suc k + n = numbered number d l (suc k) f n (le-of-suc-le-suc h) in omega arith
+
+module _ (s : Session) (t : T (sound s)) where
+  -- the step that its number stands for has that number
+  pub uart-step : T (on Uart s) → U.stepNo (U.stepOf (s .step)) ≡ s .step
+  uart-step o =
+      numbered U.stepNo US.Step.Idle U.steps 0 UP.in-order (s .step) (ltb→lt (s .step) 14 (both-left (ltb (s .step) 14) _ here)) ∙ omega arith
+    where
+      here : T (ltb (s .step) 14 && U.expects (U.stepOf (s .step)) (s .expected))
+      here = subst (λ (c : ℕ). T (stepSound c (s .step) (s .expected))) (eqb→eq (s .carrier) 1 o) (sound-step s t)
+
+  pub can-step : T (on Can s) → C.stepNo (C.stepOf (s .step)) ≡ s .step
+  can-step o =
+      numbered C.stepNo CS.Step.Idle C.steps 0 CP.in-order (s .step) (ltb→lt (s .step) 4 (both-left (ltb (s .step) 4) _ here)) ∙ omega arith
+    where
+      here : T (ltb (s .step) 4 && C.expects (C.stepOf (s .step)) (s .expected))
+      here = subst (λ (c : ℕ). T (stepSound c (s .step) (s .expected))) (eqb→eq (s .carrier) 2 o) (sound-step s t)
+
+  -- what a step of this number expects
+  pub expects-at : (k : ℕ) → T (on Uart s) → s .step ≡ k → T (U.expects (U.stepOf k) (s .expected))
+  expects-at k o e = subst (λ (n : ℕ). T (U.expects (U.stepOf n) (s .expected))) e (uart-expects s t o)
+
+  -- the last byte that is expected
+  pub last-taken : (b : ℕ) → T (not (short (progress s) (b ∷ []))) → s .taken + 1 ≡ s .expected
+  last-taken b l = omega (arith, sound-taken s t, nltb→le (s .taken + 1) (s .expected) l)
+
 -- ---- accepted inputs
 
 -- an input is a byte or a frame, and no power on
@@ -102,3 +147,11 @@ unfolding causeFor causeOf
 accepted-proper Power p h t = absurd h
 accepted-proper (Byte room b) p h t = first-cause (proper (p .memories)) _ t
 accepted-proper (Framed room l) p h t = first-cause (proper (p .memories)) _ t
+
+-- and a sound session
+pub accepted-sound : (i : Input) (p : State) → T (isCall i) → T (accepts (causeFor i p)) → T (sound (p .session))
+unfolding causeFor
+accepted-sound Power p h t = absurd h
+accepted-sound (Byte room b) p h t = accepted-clear (proper (p .memories)) (leb UC.uartRoom room) true (p .session) (holds-true _ t) .firm
+accepted-sound (Framed room l) p h t =
+    accepted-clear (proper (p .memories)) (leb CC.canRoom room) (isFrame classic l) (p .session) (holds-true _ t) .firm

@@ -7,9 +7,6 @@ use lib.Dec.{T, eqb}
 use Rattle.words.specs.Choice.{if_then_else_}
 use Rattle.words.proofs.Tests.{both-left, both-right}
 use Rattle.constants.specs.declared.Address.{Address}
-use Rattle.board.specs.declared.Place.{Place}
-use Rattle.board.specs.declared.Place.the-variants.{In, Nowhere}
-use Rattle.board.specs.declared.Region.the-variants.{Flash, Sram, Usd}
 use Rattle.board.specs.declared.View.{View}
 use Rattle.memories.specs.declared.Change.{Change}
 use Rattle.memories.specs.declared.Change.the-variants.{Nothing, Write, EraseAll, EraseSectors, ProtectOnly, Release, Lock, Unlock}
@@ -27,7 +24,7 @@ use Rattle.command.specs.declared.Next.the-variants.{Stay, Reset, Gather, GoIdl
 use Rattle.command.specs.declared.Reply.{Reply}
 use Rattle.command.specs.declared.Reply.the-variants.{Silence, Ack, AckAck, Nack, AckNack, Commands, Version, DeviceId, Data, Crc}
 use Rattle.command.specs.declared.Why.{Why}
-use Rattle.rules.specs.Rules.{unlocking, sumAt, summing}
+use Rattle.rules.specs.Rules.{unlocking, summing}
 use Rattle.uart.specs.Steps as U
 use Rattle.uart.specs.Conversation as UC
 use Rattle.uart.specs.declared.Step as US
@@ -46,6 +43,7 @@ use Rattle.theorems.specs.Failures.{reads}
 use Rattle.theorems.specs.Secrecy.{unlocks}
 use Rattle.command.proofs.Holds.{Holds, either, split}
 use Rattle.rules.proofs.Unless.{unless-locked}
+use Rattle.theorems.proofs.Made.{summing-made}
 
 -- ---- sessions inside no protected command
 
@@ -141,16 +139,9 @@ module _ (c : Carrier) where
   unlocking-discreet = record { holds = record { quiet = tt; harmless = tt; fixed = λ o. tt; calm = tt } }
 
   -- Firmware CRC
-  sum-discreet : (q : Place) (n : ℕ) → Holds (Discreet c) (sumAt q n)
-  unfolding sumAt
-  sum-discreet (In Flash at) n = record { holds = record { quiet = tt; harmless = tt; fixed = λ o. absurd o; calm = tt } }
-  sum-discreet (In Sram at) n = refusal _
-  sum-discreet (In Usd at) n = refusal _
-  sum-discreet Nowhere n = refusal _
-
   summing-discreet : (a : Address) (x : ℕ) → Holds (Discreet c) (summing a x)
-  unfolding summing
-  summing-discreet a x = either (Discreet c) _ (sum-discreet _ _) (refusal _)
+  summing-discreet =
+      summing-made (Discreet c) refusal λ at n. record { holds = record { quiet = tt; harmless = tt; fixed = λ o. absurd o; calm = tt } }
 
 -- ---- UART
 

@@ -1,9 +1,12 @@
--- Every decision is an answer, which changes nothing, or one of the changes that the rules make: what holds of these holds of every decision. Only an
--- idle step unlocks, and only by the command 0x92.
-use mathlib.Core.Bool.{Bool, not}
+-- Every decision is an answer, which changes nothing, or one of the changes that the rules make: what holds of these holds of every decision. What only
+-- one command is answered or does comes only at the end of that command.
+use mathlib.Core.Path.{_≡_, refl, _∙_}
+use mathlib.Core.Bool.{Bool, true, false, not}
 use mathlib.Core.List.{List, [], _∷_}
 use Prim.Native.Nat.{ℕ}
-use lib.Dec.{T, eqb}
+use lib.Dec.{T, eqb, eqb→eq}
+use lib.ListN.{getD}
+use Rattle.words.specs.Choice.{if_then_else_}
 use Rattle.constants.specs.declared.Address.{Address}
 use Rattle.board.specs.declared.Place.{Place}
 use Rattle.board.specs.declared.Place.the-variants.{In, Nowhere}
@@ -11,7 +14,7 @@ use Rattle.board.specs.declared.Region.{Region}
 use Rattle.board.specs.declared.Region.the-variants.{Flash, Sram, Usd}
 use Rattle.board.specs.declared.View.{View}
 use Rattle.memories.specs.declared.Change.the-variants.{Write, EraseAll, EraseSectors, ProtectOnly}
-use Rattle.command.specs.Commands.{code, canCommands, lookUp}
+use Rattle.command.specs.Commands.{code, uartCommands, canCommands, lookUp}
 use Rattle.command.specs.Decision.{if_gives_else_, answer, alter, nack}
 use Rattle.command.specs.Progress.{Progress, stagedWith, short}
 use Rattle.command.specs.declared.Command.{Command}
@@ -22,7 +25,7 @@ use Rattle.command.specs.declared.Lookup.the-variants.{Known, Unknown}
 use Rattle.command.specs.declared.Next.{Next}
 use Rattle.command.specs.declared.Next.the-variants.{GoIdle, Reset}
 use Rattle.command.specs.declared.Reply.{Reply}
-use Rattle.command.specs.declared.Reply.the-variants.{Ack, AckAck}
+use Rattle.command.specs.declared.Reply.the-variants.{Silence, Ack, AckAck, Nack, AckNack, Commands, Version, DeviceId, Data, Crc}
 use Rattle.command.specs.declared.Verdict.{Verdict}
 use Rattle.command.specs.declared.Verdict.the-variants.{Fine, No}
 use Rattle.command.specs.declared.Why.{Why}
@@ -34,19 +37,33 @@ use Rattle.uart.specs.Conversation as UC
 use Rattle.uart.specs.declared.Step as US
 use Rattle.can.specs.Steps as C
 use Rattle.can.specs.Conversation as CC
-use Rattle.frames.specs.Frames.{Frame, frameIn, carried}
+use Rattle.frames.specs.Frames.{Frame, frameIn}
 use Rattle.can.specs.declared.Step as CS
 use Rattle.boot.specs.Session.{on, progress}
 use Rattle.boot.specs.Decide.{connected, decideByte, decideFrame}
 use Rattle.boot.specs.Calls.{Input, Power, Byte, Framed, decide}
 use Rattle.carriers.specs.declared.Carrier.{Carrier}
+use Rattle.carriers.specs.declared.Carrier.the-variants.{Uart, Can}
 use Rattle.boot.specs.declared.Session.{Session}
 use Rattle.command.proofs.Holds.{Holds, either, split, judged-either}
 use Rattle.rules.proofs.Unless.{unless-either}
 
--- what has to be shown of answers and of each change, Access Unprotect apart
+-- a reply that several commands are given
+abbrev pub common : Reply → Bool
+common Silence = true
+common Ack = true
+common AckAck = true
+common (Nack w) = true
+common (AckNack w) = false
+common Commands = true
+common Version = true
+common DeviceId = true
+common (Data r at x) = false
+common (Crc at n) = false
+
+-- what has to be shown of such answers and of each change, Access Unprotect apart
 pub record Parts (P : Decision → Type 0) : Type 0 where
-  pub told : {r : Reply} {n : Next} → Holds P (answer r n)
+  pub told : {r : Reply} {n : Next} → T (common r) → Holds P (answer r n)
   pub written : (r : Region) (at x : ℕ) → Holds P (alter Ack (Write r at x) (afterWrite r))
   pub erased : (x : ℕ) → Holds P (alter Ack (EraseSectors x) GoIdle)
   pub cleared : Holds P (alter Ack EraseAll GoIdle)
@@ -55,36 +72,90 @@ pub record Parts (P : Decision → Type 0) : Type 0 where
   pub released : Holds P releasing
   pub locked : Holds P locking
 
--- a command is Access Unprotect
-abbrev pub unprotects : Command → Bool
-unprotects k = eqb (code k) 0x92
+-- and of what only Access Unprotect does, and only Read Memory, Firmware CRC and a special erase are answered, each where that command ends
+pub record Sole (P : Decision → Type 0) (unprotects reads sums erases : Type 0) : Type 0 where
+  pub unlocked : unprotects → Holds P unlocking
+  pub read : reads → (r : Region) (at x : ℕ) → Holds P (answer (Data r at x) GoIdle)
+  pub summed : sums → (at n : ℕ) → Holds P (answer (Crc at n) GoIdle)
+  pub halved : erases → (w : Why) → Holds P (answer (AckNack w) GoIdle)
+
+-- a byte is the last that a step of this number expects
+pub record Last (s : US.Step) (p : Progress) (b k : ℕ) : Type 0 where
+  pub step : U.stepNo s ≡ k
+  pub long : T (not (short p (b ∷ [])))
+
+-- a byte is the second to an idle step, and with the first it is this command and its complement
+pub record Second (s : US.Step) (p : Progress) (b n : ℕ) : Type 0 where
+  pub last : Last s p b 0
+  pub complemented : T (UC.complemented (stagedWith p (b ∷ [])))
+  pub command : getD (stagedWith p (b ∷ [])) 0 0 ≡ n
+
+-- a frame to an idle step is of this ID
+pub record Under (s : CS.Step) (f : Frame) (n : ℕ) : Type 0 where
+  pub idle : C.stepNo s ≡ 0
+  pub command : f .id ≡ n
+
+-- where the four commands end: on UART no special erase is answered so
+abbrev pub OnUart : (Decision → Type 0) → US.Step → Progress → ℕ → Type 0
+OnUart P s p b = Sole P (Second s p b 0x92) (Last s p b 5) (Last s p b 13) ⊥
+
+abbrev pub OnCan : (Decision → Type 0) → CS.Step → Frame → Type 0
+OnCan P s f = Sole P (Under s f 0x92) (Under s f 0x11) (Under s f 0xAC) (Under s f 0x44)
+
+-- on an input to a session
+abbrev pub OnInput : (Decision → Type 0) → Input → Session → Type 0
+OnInput P Power s = Unit {0}
+OnInput P (Byte room b) s = T (on Uart s) → OnUart P (U.stepOf (s .step)) (progress s) b
+OnInput P (Framed room l) s = T (on Can s) → OnCan P (C.stepOf (s .step)) (frameIn l)
+
+-- ---- Firmware CRC, and a command that is looked up
+
+module _ (P : Decision → Type 0) where
+  module _ (refusal : (w : Why) → Holds P (nack w)) (sum : (at n : ℕ) → Holds P (answer (Crc at n) GoIdle)) where
+    sum-made : (q : Place) (n : ℕ) → Holds P (sumAt q n)
+    unfolding sumAt
+    sum-made (In Flash at) n = sum at n
+    sum-made (In Sram at) n = refusal _
+    sum-made (In Usd at) n = refusal _
+    sum-made Nowhere n = refusal _
+
+    pub summing-made : (a : Address) (x : ℕ) → Holds P (summing a x)
+    unfolding summing
+    summing-made a x = either P _ (sum-made _ _) (refusal _)
+
+  looked : (go : Lookup → Decision) (n : ℕ) → ((k : Command) → n ≡ code k → Holds P (go (Known k))) → Holds P (go Unknown) → (ks : List Command)
+      → Holds P (go (lookUp ks n))
+  looked go n known unknown [] = unknown
+  looked go n known unknown (k ∷ ks) = by-test (eqb n (code k)) (eqb→eq n (code k)) (looked go n known unknown ks)
+    where
+      by-test : (t : Bool) → (T t → n ≡ code k) → Holds P (go (lookUp ks n)) → Holds P (go (if t then Known k else lookUp ks n))
+      by-test true e h = known k (e tt)
+      by-test false e h = h
 
 module _ (P : Decision → Type 0) (b : Parts P) where
-  -- an answer, a refusal, a choice
-  told : {r : Reply} {n : Next} → Holds P (answer r n)
-  told = b .told
-
+  -- a refusal, a choice
   refusal : (w : Why) → Holds P (nack w)
-  refusal w = told
+  refusal w = b .told tt
 
   choice : (t : Bool) {x y : Decision} → Holds P x → Holds P y → Holds P (if t gives x else y)
   choice t = either P t
 
   -- ---- the rules
 
-  read-made : (q : Place) (x : ℕ) → Holds P (readAt q x)
-  unfolding readAt
-  read-made (In r at) x = told
-  read-made Nowhere x = told
+  module _ (read : (r : Region) (at x : ℕ) → Holds P (answer (Data r at x) GoIdle)) where
+    read-made : (q : Place) (x : ℕ) → Holds P (readAt q x)
+    unfolding readAt
+    read-made (In r at) x = read r at x
+    read-made Nowhere x = refusal _
 
-  reading-made : (a : Address) (x : ℕ) → Holds P (reading a x)
-  unfolding reading
-  reading-made a x = choice _ (read-made _ x) told
+    reading-made : (a : Address) (x : ℕ) → Holds P (reading a x)
+    unfolding reading
+    reading-made a x = choice _ (read-made _ x) (refusal _)
 
   write-made : (q : Place) (x : ℕ) → Holds P (writeAt q x)
   unfolding writeAt
   write-made (In r at) x = b .written r at x
-  write-made Nowhere x = told
+  write-made Nowhere x = refusal _
 
   writing-made : (view : View) (a : Address) (x : ℕ) → Holds P (writing view a x)
   unfolding writing
@@ -100,163 +171,131 @@ module _ (P : Decision → Type 0) (b : Parts P) where
 
   jumping-made : (a : Address) → Holds P (jumping a)
   unfolding jumping
-  jumping-made a = choice _ told told
-
-  sum-made : (q : Place) (n : ℕ) → Holds P (sumAt q n)
-  unfolding sumAt
-  sum-made (In Flash at) n = told
-  sum-made (In Sram at) n = told
-  sum-made (In Usd at) n = told
-  sum-made Nowhere n = told
-
-  summing-made : (a : Address) (x : ℕ) → Holds P (summing a x)
-  unfolding summing
-  summing-made a x = choice _ (sum-made _ _) told
+  jumping-made a = choice _ (b .told tt) (refusal _)
 
   -- ---- UART
 
-  uart-obeyed : (k : Command) → (T (unprotects k) → Holds P unlocking) → Holds P (UC.obeyed k)
+  uart-obeyed : (k : Command) → (code k ≡ 0x92 → Holds P unlocking) → Holds P (UC.obeyed k)
   unfolding UC.obeyed
-  uart-obeyed GetCommands f = told
-  uart-obeyed GetVersion f = told
-  uart-obeyed GetDeviceId f = told
-  uart-obeyed ReadMemory f = told
-  uart-obeyed Jump f = told
-  uart-obeyed WriteMemory f = told
-  uart-obeyed Erase f = told
-  uart-obeyed ProgramProtect f = told
+  uart-obeyed GetCommands f = b .told tt
+  uart-obeyed GetVersion f = b .told tt
+  uart-obeyed GetDeviceId f = b .told tt
+  uart-obeyed ReadMemory f = b .told tt
+  uart-obeyed Jump f = b .told tt
+  uart-obeyed WriteMemory f = b .told tt
+  uart-obeyed Erase f = b .told tt
+  uart-obeyed ProgramProtect f = b .told tt
   uart-obeyed ProgramUnprotect f = b .released
   uart-obeyed AccessProtect f = b .locked
-  uart-obeyed AccessUnprotect f = f tt
-  uart-obeyed FirmwareCrc f = told
-  uart-obeyed ResetDevice f = told
-  uart-obeyed Speed f = told
+  uart-obeyed AccessUnprotect f = f refl
+  uart-obeyed FirmwareCrc f = b .told tt
+  uart-obeyed ResetDevice f = b .told tt
+  uart-obeyed Speed f = refusal _
 
-  pub uart-known : (view : View) (k : Command) → (T (unprotects k) → Holds P unlocking) → Holds P (UC.commanded view (Known k))
+  uart-commanded : (view : View) (n : ℕ) → (n ≡ 0x92 → Holds P unlocking) → Holds P (UC.commanded view (lookUp uartCommands n))
   unfolding UC.commanded
-  uart-known view k f = unless-either P view k refusal (uart-obeyed k f)
-
-  pub uart-unknown : (view : View) → Holds P (UC.commanded view Unknown)
-  unfolding UC.commanded
-  uart-unknown view = told
+  uart-commanded view n f =
+      looked P (UC.commanded view) n (λ k e. unless-either P view k refusal (uart-obeyed k (λ c. f (e ∙ c)))) (refusal _) uartCommands
 
   uart-selected : (k : Selector) → Holds P (UC.selected k)
   unfolding UC.selected
-  uart-selected (Listed n) = told
-  uart-selected (Special n) = told
-  uart-selected Impossible = told
+  uart-selected (Listed n) = b .told tt
+  uart-selected (Special n) = b .told tt
+  uart-selected Impossible = refusal _
 
   uart-addressed : (go : Address → Decision) → ((a : Address) → Holds P (go a)) → (bytes : List ℕ) → Holds P (UC.addressed go bytes)
   unfolding UC.addressed
-  uart-addressed go f bytes = choice _ (f _) told
+  uart-addressed go f bytes = choice _ (f _) (refusal _)
 
   uart-kept : (good : Address → Bool) (s : US.Step) (e : ℕ) (a : Address) → Holds P (UC.keptIf good s e a)
   unfolding UC.keptIf
-  uart-kept good s e a = choice _ told told
+  uart-kept good s e a = choice _ (b .told tt) (refusal _)
 
-  uart-complete : (s : US.Step) (e a : ℕ) (bytes : List ℕ) (view : View)
-      → (T (eqb (U.stepNo s) 0) → Holds P (UC.complete US.Step.Idle e a bytes view)) → Holds P (UC.complete s e a bytes view)
+  uart-complete : (s : US.Step) (p : Progress) (view : View) (n : ℕ) → T (not (short p (n ∷ []))) → OnUart P s p n
+      → Holds P (UC.complete s (p .expected) (p .address) (stagedWith p (n ∷ [])) view)
   unfolding UC.complete
-  uart-complete US.Step.Idle e a bytes view f = f tt
-  uart-complete US.Step.ReadAddress e a bytes view f = uart-addressed _ (uart-kept _ _ _) bytes
-  uart-complete US.Step.JumpAddress e a bytes view f = uart-addressed _ jumping-made bytes
-  uart-complete US.Step.WriteAddress e a bytes view f = uart-addressed _ (uart-kept _ _ _) bytes
-  uart-complete US.Step.CrcAddress e a bytes view f = uart-addressed _ (uart-kept _ _ _) bytes
-  uart-complete US.Step.ReadLength e a bytes view f = choice _ (reading-made _ _) told
-  uart-complete US.Step.WriteLength e a bytes view f = told
-  uart-complete US.Step.WriteData e a bytes view f = choice _ (writing-made view _ _) told
-  uart-complete US.Step.EraseSelector e a bytes view f = uart-selected _
-  uart-complete US.Step.SpecialCheck e a bytes view f = choice _ (judged-either P _ refusal (b .cleared)) told
-  uart-complete US.Step.EraseList e a bytes view f = choice _ (erasing-made view bytes _) told
-  uart-complete US.Step.ProtectLength e a bytes view f = told
-  uart-complete US.Step.ProtectList e a bytes view f = choice _ (protecting-made bytes _) told
-  uart-complete US.Step.CrcCount e a bytes view f = choice _ (summing-made _ _) told
+  uart-complete US.Step.Idle p view n t f =
+      split P _
+      (λ c. uart-commanded view _ λ e. f .unlocked (record { last = record { step = refl; long = t }; complemented = c; command = e }))
+      (λ c. refusal _)
+  uart-complete US.Step.ReadAddress p view n t f = uart-addressed _ (uart-kept _ _ _) _
+  uart-complete US.Step.JumpAddress p view n t f = uart-addressed _ jumping-made _
+  uart-complete US.Step.WriteAddress p view n t f = uart-addressed _ (uart-kept _ _ _) _
+  uart-complete US.Step.CrcAddress p view n t f = uart-addressed _ (uart-kept _ _ _) _
+  uart-complete US.Step.ReadLength p view n t f = choice _ (reading-made (f .read (record { step = refl; long = t })) _ _) (refusal _)
+  uart-complete US.Step.WriteLength p view n t f = b .told tt
+  uart-complete US.Step.WriteData p view n t f = choice _ (writing-made view _ _) (refusal _)
+  uart-complete US.Step.EraseSelector p view n t f = uart-selected _
+  uart-complete US.Step.SpecialCheck p view n t f = choice _ (judged-either P _ refusal (b .cleared)) (refusal _)
+  uart-complete US.Step.EraseList p view n t f = choice _ (erasing-made view _ _) (refusal _)
+  uart-complete US.Step.ProtectLength p view n t f = b .told tt
+  uart-complete US.Step.ProtectList p view n t f = choice _ (protecting-made _ _) (refusal _)
+  uart-complete US.Step.CrcCount p view n t f =
+      choice _ (summing-made P refusal (f .summed (record { step = refl; long = t })) _ _) (refusal _)
 
-  -- one byte, given what an idle step decides on the second byte
-  pub uart-heard : (s : US.Step) (p : Progress) (view : View) (n : ℕ)
-      → (T (eqb (U.stepNo s) 0) → T (not (short p (n ∷ [])))
-      → Holds P (UC.complete US.Step.Idle (p .expected) (p .address) (stagedWith p (n ∷ [])) view))
-      → Holds P (UC.heard s p view n)
+  uart-heard : (s : US.Step) (p : Progress) (view : View) (n : ℕ) → OnUart P s p n → Holds P (UC.heard s p view n)
   unfolding UC.heard
-  uart-heard s p view n f = split P _ (λ t. told) (λ t. uart-complete s _ _ _ view (λ i. f i t))
+  uart-heard s p view n f = split P _ (λ t. b .told tt) (λ t. uart-complete s p view n t f)
 
   -- ---- CAN
 
-  can-special : (v : Verdict) → Holds P (CC.erasedOrNot v)
+  can-special : (v : Verdict) → ((w : Why) → Holds P (answer (AckNack w) GoIdle)) → Holds P (CC.erasedOrNot v)
   unfolding CC.erasedOrNot
-  can-special Fine = b .clearedOnCan
-  can-special (No w) = told
+  can-special Fine f = b .clearedOnCan
+  can-special (No w) f = f w
 
-  can-selected : (view : View) (k : Selector) → Holds P (CC.selected view k)
+  can-selected : (view : View) (k : Selector) → ((w : Why) → Holds P (answer (AckNack w) GoIdle)) → Holds P (CC.selected view k)
   unfolding CC.selected
-  can-selected view (Listed n) = told
-  can-selected view (Special n) = can-special _
-  can-selected view Impossible = told
+  can-selected view (Listed n) f = b .told tt
+  can-selected view (Special n) f = can-special _ f
+  can-selected view Impossible f = refusal _
 
-  can-obeyed : (view : View) (d : List ℕ) (k : Command) → (T (unprotects k) → Holds P unlocking) → Holds P (CC.obeyed view d k)
-  unfolding CC.obeyed
-  can-obeyed view d GetCommands f = told
-  can-obeyed view d GetVersion f = told
-  can-obeyed view d GetDeviceId f = told
-  can-obeyed view d ReadMemory f = reading-made _ _
-  can-obeyed view d Jump f = jumping-made _
-  can-obeyed view d WriteMemory f = judged-either P _ refusal told
-  can-obeyed view d Erase f = can-selected view _
-  can-obeyed view d ProgramProtect f = told
-  can-obeyed view d ProgramUnprotect f = b .released
-  can-obeyed view d AccessProtect f = b .locked
-  can-obeyed view d AccessUnprotect f = f tt
-  can-obeyed view d FirmwareCrc f = summing-made _ _
-  can-obeyed view d ResetDevice f = told
-  can-obeyed view d Speed f = choice _ told told
+  module _ (view : View) (d : List ℕ) (g : Frame) (f : OnCan P CS.Step.Idle g) where
+    can-obeyed : (k : Command) → g .id ≡ code k → Holds P (CC.obeyed view d k)
+    unfolding CC.obeyed
+    can-obeyed GetCommands e = b .told tt
+    can-obeyed GetVersion e = b .told tt
+    can-obeyed GetDeviceId e = b .told tt
+    can-obeyed ReadMemory e = reading-made (f .read (record { idle = refl; command = e })) _ _
+    can-obeyed Jump e = jumping-made _
+    can-obeyed WriteMemory e = judged-either P _ refusal (b .told tt)
+    can-obeyed Erase e = can-selected view _ (f .halved (record { idle = refl; command = e }))
+    can-obeyed ProgramProtect e = b .told tt
+    can-obeyed ProgramUnprotect e = b .released
+    can-obeyed AccessProtect e = b .locked
+    can-obeyed AccessUnprotect e = f .unlocked (record { idle = refl; command = e })
+    can-obeyed FirmwareCrc e = summing-made P refusal (f .summed (record { idle = refl; command = e })) _ _
+    can-obeyed ResetDevice e = b .told tt
+    can-obeyed Speed e = choice _ (b .told tt) (refusal _)
 
-  pub can-known : (view : View) (d : List ℕ) (k : Command) → (T (unprotects k) → Holds P unlocking) → Holds P (CC.commanded view d (Known k))
-  unfolding CC.commanded
-  can-known view d k f = choice _ (unless-either P view k refusal (can-obeyed view d k f)) told
-
-  pub can-unknown : (view : View) (d : List ℕ) → Holds P (CC.commanded view d Unknown)
-  unfolding CC.commanded
-  can-unknown view d = told
+    can-commanded : Holds P (CC.commanded view d (lookUp canCommands (g .id)))
+    unfolding CC.commanded
+    can-commanded =
+        looked P (CC.commanded view d) (g .id) (λ k e. choice _ (unless-either P view k refusal (can-obeyed k e)) (refusal _)) (refusal _) canCommands
 
   can-gathering : (c : Command) (p : Progress) (f : Frame) {d : Decision} → Holds P d → Holds P (CC.gathering c p f d)
   unfolding CC.gathering
-  can-gathering c p f h = choice _ told (choice _ told h)
+  can-gathering c p f h = choice _ (refusal _) (choice _ (b .told tt) h)
 
   can-unless : (p : Progress) (f : Frame) {d : Decision} → Holds P d → Holds P (CC.unlessExtra p f d)
   unfolding CC.unlessExtra
-  can-unless p f h = choice _ told h
+  can-unless p f h = choice _ (refusal _) h
 
-  -- one frame, given what an idle step decides
-  pub can-heard : (s : CS.Step) (p : Progress) (view : View) (g : Frame)
-      → (T (eqb (C.stepNo s) 0) → Holds P (CC.commanded view (carried g) (lookUp canCommands (g .id)))) → Holds P (CC.heard s p view g)
+  can-heard : (s : CS.Step) (p : Progress) (view : View) (g : Frame) → OnCan P s g → Holds P (CC.heard s p view g)
   unfolding CC.heard CC.decided
-  can-heard CS.Step.Idle p view g f = f tt
+  can-heard CS.Step.Idle p view g f = can-commanded view _ g f
   can-heard CS.Step.WriteData p view g f = can-gathering _ _ _ (writing-made view _ _)
   can-heard CS.Step.EraseList p view g f = can-gathering _ _ _ (can-unless _ _ (erasing-made view _ _))
   can-heard CS.Step.ProtectList p view g f = can-gathering _ _ _ (can-unless _ _ (protecting-made _ _))
 
   -- ---- any input
 
-  pub connected-made : (c : Carrier) (s : Session) (calls : Bool) {d : Decision} → (T (on c s) → Holds P d) → Holds P (connected c s calls d)
+  connected-made : (c : Carrier) (s : Session) (calls : Bool) {d : Decision} → (T (on c s) → Holds P d) → Holds P (connected c s calls d)
   unfolding connected
-  connected-made c s calls f = split P _ f (λ n. choice _ told told)
+  connected-made c s calls f = split P _ f (λ n. choice _ (b .told tt) (b .told tt))
 
-  -- where it holds of Access Unprotect too, it holds of every decision
-  module _ (u : Holds P unlocking) where
-    uart-any : (view : View) (k : Lookup) → Holds P (UC.commanded view k)
-    uart-any view (Known k) = uart-known view k (λ h. u)
-    uart-any view Unknown = uart-unknown view
-
-    can-any : (view : View) (d : List ℕ) (k : Lookup) → Holds P (CC.commanded view d k)
-    can-any view d (Known k) = can-known view d k (λ h. u)
-    can-any view d Unknown = can-unknown view d
-
-    uart-idle : (e a : ℕ) (bytes : List ℕ) (view : View) → Holds P (UC.complete US.Step.Idle e a bytes view)
-    unfolding UC.complete
-    uart-idle e a bytes view = choice _ (uart-any view _) told
-
-    pub decide-made : (i : Input) (s : Session) (view : View) → Holds P (decide i s view)
-    unfolding decide decideByte decideFrame
-    decide-made Power s view = told
-    decide-made (Byte room n) s view = connected-made _ s _ (λ o. uart-heard _ (progress s) view n (λ i t. uart-idle _ _ _ view))
-    decide-made (Framed room f) s view = connected-made _ s _ (λ o. can-heard _ (progress s) view (frameIn f) (λ i. can-any view _ _))
+  pub decide-made : (i : Input) (s : Session) (view : View) → OnInput P i s → Holds P (decide i s view)
+  unfolding decide decideByte decideFrame
+  decide-made Power s view f = b .told tt
+  decide-made (Byte room n) s view f = connected-made _ s _ (λ o. uart-heard _ (progress s) view n (f o))
+  decide-made (Framed room l) s view f = connected-made _ s _ (λ o. can-heard _ (progress s) view (frameIn l) (f o))

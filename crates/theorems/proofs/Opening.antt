@@ -44,31 +44,17 @@ use Rattle.boot.specs.Causes.{accepts}
 use Rattle.boot.specs.Calls.{State, powered, Input, Power, Byte, Framed, brings, carrierOf, viewIn, causeFor, decide, perform, refused, call, done, run}
 use Rattle.boot.specs.declared.Session.{Session}
 use Rattle.boot.proofs.Causes.{accepted-clear}
-use Rattle.boot.proofs.Sound.{sound-taken, sound-step, uart-expects}
 use Rattle.command.proofs.Holds.{Holds, split}
 use Rattle.theorems.specs.Secrecy.{unlocks, opens, isUnprotect, Exactly, OpensExactly}
-use Rattle.theorems.proofs.Made.{Parts, uart-known, uart-unknown, uart-heard, can-known, can-unknown, can-heard, connected-made}
-
--- ---- tests
+use Rattle.theorems.proofs.InStep.{uart-step, can-step, expects-at, last-taken}
+use Rattle.theorems.proofs.Made.{Parts, Sole, Second, Under, decide-made}
 
 -- two tests that hold together are the same
-same-test : (a b : Bool) → (T a → T b) → (T b → T a) → a ≡ b
+pub same-test : (a b : Bool) → (T a → T b) → (T b → T a) → a ≡ b
 same-test true true f g = refl
 same-test true false f g = absurd (f tt)
 same-test false true f g = absurd (g tt)
 same-test false false f g = refl
-
--- of a list whose first element alone has the number 0, an element of that number is the first; so of the steps of a carrier idle is
-all-at : {A : Type 0} (f : A → Bool) (d : A) (l : List A) → T (all f l) → (n : ℕ) → n < length l → T (f (getD l n d))
-all-at f d [] t n h = absurd (not-suc-le-zero h)
-all-at f d (x ∷ l) t zero h = both-left (f x) (all f l) t
-all-at f d (x ∷ l) t (suc n) h = all-at f d l (both-right (f x) (all f l) t) n (le-of-suc-le-suc h)
-
-first-only : {A : Type 0} (number : A → ℕ) (d : A) (l : List A) → T (all (λ (x : A). not (eqb (number x) 0)) l)
-    → (n : ℕ) → n < length (d ∷ l) → T (eqb (number (getD (d ∷ l) n d)) 0) → n ≡ 0
-first-only number d l t zero h e = refl
-first-only number d l t (suc n) h e =
-    absurd (T-not (eqb (number (getD l n d)) 0) (all-at (λ x. not (eqb (number x) 0)) d l t n (le-of-suc-le-suc h)) e)
 
 -- ---- what unlocks is 0x92 to an idle session
 
@@ -76,65 +62,26 @@ first-only number d l t (suc n) h e =
 abbrev Only : Type 0 → Decision → Type 0
 Only C d = T (unlocks (d .change)) → C
 
-parts : (C : Type 0) → Parts (Only C)
-parts C = record {
-  told = record { holds = λ o. absurd o };
-  written = λ r at x. record { holds = λ o. absurd o };
-  erased = λ x. record { holds = λ o. absurd o };
-  cleared = record { holds = λ o. absurd o };
-  clearedOnCan = record { holds = λ o. absurd o };
-  protected = λ x. record { holds = λ o. absurd o };
-  released = record { holds = λ o. absurd o };
-  locked = record { holds = λ o. absurd o };
-}
+module _ (C : Type 0) where
+  parts : Parts (Only C)
+  parts = record {
+    told = λ h. record { holds = λ o. absurd o };
+    written = λ r at x. record { holds = λ o. absurd o };
+    erased = λ x. record { holds = λ o. absurd o };
+    cleared = record { holds = λ o. absurd o };
+    clearedOnCan = record { holds = λ o. absurd o };
+    protected = λ x. record { holds = λ o. absurd o };
+    released = record { holds = λ o. absurd o };
+    locked = record { holds = λ o. absurd o };
+  }
 
--- a command that is looked up unlocks only if it is 0x92
-looked : (go : Lookup → Decision) → ((k : Command) → Holds (Only (code k ≡ 0x92)) (go (Known k)))
-    → ((C : Type 0) → Holds (Only C) (go Unknown)) → (ks : List Command) (n : ℕ) → Holds (Only (n ≡ 0x92)) (go (lookUp ks n))
-looked go known unknown [] n = unknown (n ≡ 0x92)
-looked go known unknown (k ∷ ks) n = by-test (eqb n (code k)) (eqb→eq n (code k)) (looked go known unknown ks n)
-  where
-    by-test : (t : Bool) → (T t → n ≡ code k) → Holds (Only (n ≡ 0x92)) (go (lookUp ks n))
-        → Holds (Only (n ≡ 0x92)) (go (if t then Known k else lookUp ks n))
-    by-test true e h = record { holds = λ o. e tt ∙ known k .holds o }
-    by-test false e h = h
-
-uart-only : (view : View) (n : ℕ) → Holds (Only (n ≡ 0x92)) (UC.commanded view (lookUp uartCommands n))
-uart-only view n =
-    looked (UC.commanded view)
-    (λ k. uart-known (Only (code k ≡ 0x92)) (parts (code k ≡ 0x92)) view k (λ h. record { holds = λ o. eqb→eq (code k) 0x92 h }))
-    (λ C. uart-unknown (Only C) (parts C) view) uartCommands n
-
-can-only : (view : View) (d : List ℕ) (n : ℕ) → Holds (Only (n ≡ 0x92)) (CC.commanded view d (lookUp canCommands n))
-can-only view d n =
-    looked (CC.commanded view d)
-    (λ k. can-known (Only (code k ≡ 0x92)) (parts (code k ≡ 0x92)) view d k (λ h. record { holds = λ o. eqb→eq (code k) 0x92 h }))
-    (λ C. can-unknown (Only C) (parts C) view d) canCommands n
-
--- a byte is the second to an idle step, and with the first it is 0x92 and its complement
-record Second (s : US.Step) (p : Progress) (b : ℕ) : Type 0 where
-  idle : T (eqb (U.stepNo s) 0)
-  long : T (not (short p (b ∷ [])))
-  complemented : T (UC.complemented (stagedWith p (b ∷ [])))
-  command : getD (stagedWith p (b ∷ [])) 0 0 ≡ 0x92
-
-byte-only : (s : US.Step) (p : Progress) (view : View) (b : ℕ) → Holds (Only (Second s p b)) (UC.heard s p view b)
-unfolding UC.complete
-byte-only s p view b =
-    uart-heard (Only (Second s p b)) (parts (Second s p b)) s p view b λ i t.
-    split (Only (Second s p b)) (UC.complemented (stagedWith p (b ∷ [])))
-    (λ c. record { holds = λ o. record { idle = i; long = t; complemented = c; command = uart-only view _ .holds o } })
-    (λ c. parts (Second s p b) .told)
-
--- a frame to an idle step is of the ID 0x92
-record Command0x92 (s : CS.Step) (f : Frame) : Type 0 where
-  idle : T (eqb (C.stepNo s) 0)
-  command : f .id ≡ 0x92
-
-frame-only : (s : CS.Step) (p : Progress) (view : View) (f : Frame) → Holds (Only (Command0x92 s f)) (CC.heard s p view f)
-frame-only s p view f =
-    can-heard (Only (Command0x92 s f)) (parts (Command0x92 s f)) s p view f λ i.
-    record { holds = λ o. record { idle = i; command = can-only view (carried f) (f .id) .holds o } }
+  sole : {u r c e : Type 0} → (u → C) → Sole (Only C) u r c e
+  sole f = record {
+    unlocked = λ k. record { holds = λ o. f k };
+    read = λ k r at x. record { holds = λ o. absurd o };
+    summed = λ k at n. record { holds = λ o. absurd o };
+    halved = λ k w. record { holds = λ o. absurd o };
+  }
 
 -- ---- and 0x92 to an idle session unlocks
 
@@ -158,10 +105,10 @@ can-obeys view d =
     (λ k. split Opens (view .locked && false) (λ h. absurd (unhindered (view .locked) h)) (λ h. record { holds = tt }))
     (λ k. absurd k)
 
-byte-unlocks : (p : Progress) (view : View) (b : ℕ) → Second US.Step.Idle p b → Holds Opens (UC.heard US.Step.Idle p view b)
+byte-unlocks : (p : Progress) (view : View) (b : ℕ) → Second US.Step.Idle p b 0x92 → Holds Opens (UC.heard US.Step.Idle p view b)
 unfolding UC.heard UC.complete
 byte-unlocks p view b k =
-    split Opens (short p (b ∷ [])) (λ h. absurd (T-not (short p (b ∷ [])) (k .long) h)) λ h.
+    split Opens (short p (b ∷ [])) (λ h. absurd (T-not (short p (b ∷ [])) (k .last .long) h)) λ h.
     split Opens (UC.complemented (stagedWith p (b ∷ [])))
     (λ c. subst (λ (n : ℕ). Holds Opens (UC.commanded view (lookUp uartCommands n))) (sym (k .command)) (uart-obeys view))
     (λ c. absurd (T-not (UC.complemented (stagedWith p (b ∷ []))) c (k .complemented)))
@@ -170,26 +117,6 @@ frame-unlocks : (p : Progress) (view : View) (f : Frame) → f .id ≡ 0x92 → 
 unfolding CC.heard CC.decided
 frame-unlocks p view f e =
     subst (λ (n : ℕ). Holds Opens (CC.commanded view (carried f) (lookUp canCommands n))) (sym e) (can-obeys view (carried f))
-
--- ---- a sound session
-
-module _ (s : Session) (t : T (sound s)) where
-  -- on UART, and on CAN, only step 0 is idle
-  uart-idle : T (on Uart s) → T (eqb (U.stepNo (U.stepOf (s .step))) 0) → s .step ≡ 0
-  uart-idle o i = first-only U.stepNo US.Step.Idle (drop 1 U.steps) tt (s .step) (ltb→lt (s .step) 14 (both-left (ltb (s .step) 14) _ here)) i
-    where
-      here : T (ltb (s .step) 14 && U.expects (U.stepOf (s .step)) (s .expected))
-      here = subst (λ (c : ℕ). T (stepSound c (s .step) (s .expected))) (eqb→eq (s .carrier) 1 o) (sound-step s t)
-
-  can-idle : T (on Can s) → T (eqb (C.stepNo (C.stepOf (s .step))) 0) → s .step ≡ 0
-  can-idle o i = first-only C.stepNo CS.Step.Idle (drop 1 C.steps) tt (s .step) (ltb→lt (s .step) 4 (both-left (ltb (s .step) 4) _ here)) i
-    where
-      here : T (ltb (s .step) 4 && C.expects (C.stepOf (s .step)) (s .expected))
-      here = subst (λ (c : ℕ). T (stepSound c (s .step) (s .expected))) (eqb→eq (s .carrier) 2 o) (sound-step s t)
-
-  -- idle on UART two bytes are expected
-  two : T (on Uart s) → s .step ≡ 0 → s .expected ≡ 2
-  two o e = eqb→eq (s .expected) 2 (subst (λ (n : ℕ). T (U.expects (U.stepOf n) (s .expected))) e (uart-expects s t o))
 
 -- what is staged with the second of two bytes
 module _ (s : Session) (b : ℕ) (l : length (s .staged) ≡ 257) (one : s .taken ≡ 1) (two : s .expected ≡ 2) where
@@ -219,16 +146,16 @@ module _ (s : Session) (t : T (sound s)) (view : View) where
     bytes = stagedWith (progress s) (b ∷ [])
 
     byte-opens : T (unlocks (decide (Byte room b) s view .change)) → T (isUnprotect (Byte room b) s)
-    unfolding decide decideByte
-    byte-opens =
-        connected-made (Only (T (isUnprotect (Byte room b) s))) (parts (T (isUnprotect (Byte room b) s))) Uart s _
-        (λ o. record { holds = λ u. test o (byte-only (U.stepOf (s .step)) (progress s) view b .holds u) }) .holds
+    byte-opens = decide-made (Only Asked) (parts Asked) (Byte room b) s view (λ o. sole Asked (test o)) .holds
       where
-        test : T (on Uart s) → Second (U.stepOf (s .step)) (progress s) b → T (isUnprotect (Byte room b) s)
+        Asked : Type 0
+        Asked = T (isUnprotect (Byte room b) s)
+
+        test : T (on Uart s) → Second (U.stepOf (s .step)) (progress s) b 0x92 → Asked
         test o k =
-            let e : s .step ≡ 0 = uart-idle s t o (k .idle) in
-            let w : s .expected ≡ 2 = two s t o e in
-            let n : s .taken ≡ 1 = omega (arith, sound-taken s t, nltb→le (s .taken + 1) (s .expected) (k .long)) in
+            let e : s .step ≡ 0 = sym (uart-step s t o) ∙ k .last .step in
+            let w : s .expected ≡ 2 = eqb→eq (s .expected) 2 (expects-at s t 0 o e) in
+            let n : s .taken ≡ 1 = omega (arith, last-taken s t b (k .last .long)) in
             let f : getD (s .staged) 0 0 ≡ 0x92 = sym (byte0 s b l n w) ∙ k .command in
             let c : getD bytes 1 0 ≡ complement (getD bytes 0 0) = eqb→eq (getD bytes 1 0) (complement (getD bytes 0 0)) (k .complemented) in
             let g : b ≡ 0x6D = sym (byte1 s b l n w) ∙ c ∙ ap complement (k .command) in
@@ -239,15 +166,14 @@ module _ (s : Session) (t : T (sound s)) (view : View) where
     byte-opened h =
         let (o, i, k, c, d) = five (on Uart s) (eqb (s .step) 0) (eqb (s .taken) 1) (eqb (getD (s .staged) 0 0) 0x92) (eqb b 0x6D) h in
         let e : s .step ≡ 0 = eqb→eq (s .step) 0 i in
-        let w : s .expected ≡ 2 = two s t o e in
+        let w : s .expected ≡ 2 = eqb→eq (s .expected) 2 (expects-at s t 0 o e) in
         let n : s .taken ≡ 1 = eqb→eq (s .taken) 1 k in
         let f : getD bytes 0 0 ≡ 0x92 = byte0 s b l n w ∙ eqb→eq (getD (s .staged) 0 0) 0x92 c in
         let g : getD bytes 1 0 ≡ 0x6D = byte1 s b l n w ∙ eqb→eq b 0x6D d in
         split Opens (on Uart s)
         (λ o. subst (λ (m : ℕ). Holds Opens (UC.heard (U.stepOf m) (progress s) view b)) (sym e)
         (byte-unlocks (progress s) view b (record {
-          idle = tt;
-          long = rw (n, w) tt;
+          last = record { step = refl; long = rw (n, w) tt };
           complemented = rw (g, f) tt;
           command = f;
         })))
@@ -255,13 +181,13 @@ module _ (s : Session) (t : T (sound s)) (view : View) where
 
   module _ (room : ℕ) (frame : List ℕ) where
     frame-opens : T (unlocks (decide (Framed room frame) s view .change)) → T (isUnprotect (Framed room frame) s)
-    unfolding decide decideFrame
-    frame-opens =
-        connected-made (Only (T (isUnprotect (Framed room frame) s))) (parts (T (isUnprotect (Framed room frame) s))) Can s _
-        (λ o. record { holds = λ u. test o (frame-only (C.stepOf (s .step)) (progress s) view (frameIn frame) .holds u) }) .holds
+    frame-opens = decide-made (Only Asked) (parts Asked) (Framed room frame) s view (λ o. sole Asked (test o)) .holds
       where
-        test : T (on Can s) → Command0x92 (C.stepOf (s .step)) (frameIn frame) → T (isUnprotect (Framed room frame) s)
-        test o k = rw (eqb→eq (s .carrier) 2 o, can-idle s t o (k .idle), k .command) tt
+        Asked : Type 0
+        Asked = T (isUnprotect (Framed room frame) s)
+
+        test : T (on Can s) → Under (C.stepOf (s .step)) (frameIn frame) 0x92 → Asked
+        test o k = rw (eqb→eq (s .carrier) 2 o, sym (can-step s t o) ∙ k .idle, k .command) tt
 
     frame-opened : T (isUnprotect (Framed room frame) s) → T (unlocks (decide (Framed room frame) s view .change))
     unfolding decide decideFrame connected

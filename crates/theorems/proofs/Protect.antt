@@ -1,11 +1,12 @@
 -- The club's failure (d): an accepted list of 0x63 holds only sectors of the board, and protecting those alone is all that is done.
 use mathlib.Core.Path.{refl, sym, subst}
-use mathlib.Core.Bool.{Bool, true, false}
+use mathlib.Core.Bool.{Bool, true, false, or-true}
 use mathlib.Core.List.{List}
 use Prim.Native.Nat.{ℕ}
 use lib.Dec.{T, ltb→lt}
 use Rattle.words.specs.Choice.{if_then_else_}
 use Rattle.words.specs.Lists.{all}
+use Rattle.words.proofs.Tests.{holds-true}
 use Rattle.board.specs.Quantities.{isSector, firstIndexed}
 use Rattle.board.specs.declared.Region.the-variants.{Usd}
 use Rattle.memories.specs.Memories.{Memories, proper}
@@ -21,6 +22,7 @@ use Rattle.boot.specs.Causes.{accepts}
 use Rattle.boot.specs.Calls.{done, State, Input, Power, Byte, Framed, viewIn, causeFor, decide, perform, refused, call}
 use Rattle.theorems.specs.Failures.{acks, stagedAfter, countOfBytes, inProtect, toProtect, Protects, ExactlyNamed}
 use Rattle.theorems.proofs.InStep.{accepted-proper}
+use Rattle.theorems.proofs.Wire.{on-the-wire}
 use Rattle.theorems.proofs.Listed.{decide-protect}
 
 -- the change, on memories of their proper sizes
@@ -57,4 +59,5 @@ module _ (p : State) (h : T (inProtect (p .session))) where
       protects-if (Framed room l) (accepts (causeFor (Framed room l) p)) (accepted-proper (Framed room l) p tt) a
 
 pub exactly-named : ExactlyNamed
-exactly-named i p h a = protects-call p h i a
+exactly-named i p h a =
+    protects-call p h i (subst T (on-the-wire .acceptance i p (rw (holds-true (inProtect (p .session)) h, or-true) tt)) a)

@@ -13,29 +13,17 @@ use Rattle.boot.specs.Causes.{accepts}
 use Rattle.boot.specs.Calls.{Input, Power, Byte, Framed, State, powered, viewIn, causeFor, decide, commandsOf, sent, perform, refused, call, done, run}
 use Rattle.theorems.specs.Failures.{sentWith, NeverRead}
 use Rattle.theorems.specs.Secrecy.{shut}
+use Rattle.theorems.proofs.Wire.{replied, struck-exactly}
 use Rattle.theorems.proofs.Secrecy.{Twins, twins-fresh, twins-after, shows-nothing, quiet-done}
-
--- a refused call replies nothing, an accepted one what it decided
-replied : (i : Input) (p : State) → call i p .reply ≡ sentWith (p .memories) i p
-unfolding call done perform if_gives_else_ sent says
-replied i p = by-test (accepts (causeFor i p)) (decide i (p .session) (viewIn p))
-  where
-    silent : (j : Input) → [] ≡ sent j (p .session) (says (commandsOf j) Silence (p .memories))
-    silent Power = refl
-    silent (Byte room b) = refl
-    silent (Framed room l) = refl
-
-    by-test : (t : Bool) (d : Decision) → (if t then perform i p d else refused (causeFor i p) p) .reply
-        ≡ sent i (p .session) (says (commandsOf i) ((if t gives d else answer Silence Stay) .reply) (p .memories))
-    by-test true d = refl
-    by-test false d = silent i
 
 pub never-read : NeverRead
 never-read m pm l = record {
   own = λ is i. replied i (run is (powered m));
   never = λ is i k. quiet-done i (run is (powered m)) (run is (powered m)) (after is k);
-  blind = λ is i k x y. shows-nothing i (run is (powered m) .session) (done i (run is (powered m)) .reply)
-      (quiet-done i (run is (powered m)) (run is (powered m)) (after is k)) x y .shown;
+  blind = λ is i k x y.
+      rw (struck-exactly i (run is (powered m)))
+      (shows-nothing i (run is (powered m) .session) (done i (run is (powered m)) .reply)
+      (quiet-done i (run is (powered m)) (run is (powered m)) (after is k)) x y .shown);
 }
   where
     after : (is : List Input) → T (shut is (powered m)) → Twins (run is (powered m)) (run is (powered m))

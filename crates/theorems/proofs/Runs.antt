@@ -20,6 +20,7 @@ use Rattle.theorems.specs.Secrecy.{opens, isUnprotect, shut, Call, Power
 use Rattle.theorems.specs.Runs.{leftOn, Kept, boardIn, Ran, seenIn, endOf, RunsOnce, obeyed, shutIn, Demand3OfCode}
 use Rattle.theorems.proofs.Opening.{call-staged, opens-exactly}
 use Rattle.theorems.proofs.Secrecy.{secret}
+use Rattle.theorems.proofs.Wire.{number-accepts}
 
 -- ---- one call
 
@@ -77,7 +78,7 @@ runs-once = record { some = some-run; one = one-run }
 seen-in : (cs ds : List Call) (p : State) → seenIn cs p (leavesOf (cs ++ ds) p) ≡ seenOf cs p
 unfolding leavesOf seenIn seenOf
 seen-in [] ds p = refl
-seen-in (c ∷ cs) ds p = ap (λ (xs : List Seen). seen c p (leaves c p) ∷ xs) (seen-in cs ds (call (input c) p .state))
+seen-in (c ∷ cs) ds p = ap (λ (xs : List Seen). seen c (p .session) (leaves c p) ∷ xs) (seen-in cs ds (call (input c) p .state))
 
 end-of : (cs ds : List Call) (p : State) → endOf p (take (length cs) (leavesOf (cs ++ ds) p)) ≡ run (inputs cs) p
 unfolding leavesOf endOf run
@@ -90,20 +91,6 @@ behind [] ds p = refl
 behind (c ∷ cs) ds p = behind cs ds (call (input c) p .state)
 
 -- ---- an obeyed Access Unprotect
-
--- a call's number is 0 exactly if it is accepted
-number-accepts : (i : Input) (p : State) → eqb (causeNo (call i p .cause)) 0 ≡ accepts (causeFor i p)
-unfolding call perform
-number-accepts i p = by-cause (causeFor i p)
-  where
-    by-cause : (c : Cause)
-        → eqb (causeNo ((if accepts c then perform i p (decide i (p .session) (viewIn p)) else refused c p) .cause)) 0 ≡ accepts c
-    by-cause Accepted = refl
-    by-cause WrongMemory = refl
-    by-cause ShortReply = refl
-    by-cause BadFrame = refl
-    by-cause UnsoundSession = refl
-    by-cause BoardRunning = refl
 
 obeyed-opens : (c : Call) (p : State) → length (p .session .staged) ≡ 257 → obeyed c p (leaves c p) ≡ opens (input c) p
 obeyed-opens c p l =

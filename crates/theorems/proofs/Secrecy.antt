@@ -4,7 +4,8 @@ use mathlib.Core.Bool.{Bool, true, false, not}
 use mathlib.Core.List.{List, [], _∷_}
 use Prim.Native.Nat.{ℕ}
 use lib.Dec.{T, leb}
-use lib.ListN.{length}
+use lib.ListN.{length, take, drop}
+use lib.Seq.{take-at}
 use Rattle.words.specs.Choice.{if_then_else_}
 use Rattle.words.proofs.Tests.{both-left, both-right, both-hold, chosen}
 use Rattle.board.specs.Usd.{protectionOn}
@@ -30,16 +31,17 @@ use Rattle.boot.specs.declared.Cause.{Cause}
 use Rattle.boot.specs.declared.Cause.the-variants.{Accepted}
 use Rattle.boot.specs.declared.Session.{Session}
 use Rattle.theorems.specs.Failures.{reads}
-use Rattle.theorems.specs.Secrecy.{unlocks, opens, shut, Call, input, inputs, lent, filled, leftBy, leavesOf, veiled, Seen, seenOf, Alike, Demand3}
+use Rattle.theorems.specs.Secrecy.{unlocks, opens, shut, Call, input, inputs, lent, filled, leftBy, leaves, leavesOf, sums, answered, veiled, Seen, seen, seenOf, Alike, Demand3}
+use Rattle.theorems.proofs.Wire.{doneBy, struck-exactly}
 use Rattle.theorems.proofs.Locked.{calm, harmless, Discreet, decide-discreet, after-calm, gathered-calm}
 
 -- ---- what a discreet act shows of the memories, and does to them
 
 -- two replies are alike, but for a CRC value: by themselves, in their length, and in a buffer that they are left in
 pub record Hides (i : Input) (r : Reply) (x y : List ℕ) : Type 0 where
-  pub shown : veiled i r x ≡ veiled i r y
+  pub shown : veiled i (sums r) x ≡ veiled i (sums r) y
   pub long : length x ≡ length y
-  pub left : (before : List ℕ) → veiled i r (filled before x) ≡ veiled i r (filled before y)
+  pub left : (before : List ℕ) → veiled i (sums r) (filled before x) ≡ veiled i (sums r) (filled before y)
 
 itself : {i : Input} {r : Reply} {x : List ℕ} → Hides i r x x
 itself = record { shown = refl; long = refl; left = λ before. refl }
@@ -130,12 +132,9 @@ module _ (i : Input) (p q : State) (t : Twins p q) where
   decisions-alike : decide i (p .session) (viewIn p) ≡ decide i (q .session) (viewIn q)
   decisions-alike = ap₂ (decide i) (t .session) (ap viewOf (t .usd))
 
--- a call, what it does and what is seen of it, by whether it is accepted, its cause and its decision
+-- a call and what is seen of it, by whether it is accepted, its cause and its decision
 abbrev callBy : Input → State → Bool → Cause → Decision → Outcome
 callBy i p t c d = if t then perform i p d else refused c p
-
-abbrev doneBy : Bool → Decision → Decision
-doneBy t d = if t gives d else answer Silence Stay
 
 abbrev seenBy : Input → List ℕ → Outcome → Decision → Seen
 seenBy i before o e = record {
@@ -143,7 +142,7 @@ seenBy i before o e = record {
   length = length (o .reply);
   session = o .state .session;
   usd = o .state .memories .usd;
-  buffer = veiled i (e .reply) (filled before (o .reply));
+  buffer = veiled i (sums (e .reply)) (filled before (o .reply));
 }
 
 -- ---- one call
@@ -170,12 +169,12 @@ module _ (i : Input) (c : Cause) (d : Decision) (f : Discreet (carrierOf i) d) w
         ∙ ap (λ (s : Session). length (sent i s (says (commandsOf i) (d .reply) (q .memories)))) (w .session)
     lengths-alike false = refl
 
-    buffers-alike : (t : Bool) (before : List ℕ) → veiled i (doneBy t d .reply) (filled before (callBy i p t c d .reply))
-        ≡ veiled i (doneBy t d .reply) (filled before (callBy i q t c d .reply))
+    buffers-alike : (t : Bool) (before : List ℕ) → veiled i (sums (doneBy t d .reply)) (filled before (callBy i p t c d .reply))
+        ≡ veiled i (sums (doneBy t d .reply)) (filled before (callBy i q t c d .reply))
     unfolding perform if_gives_else_
     buffers-alike true before =
         shows-nothing i (p .session) (d .reply) (f .quiet) (p .memories) (q .memories) .left before
-        ∙ ap (λ (s : Session). veiled i (d .reply) (filled before (sent i s (says (commandsOf i) (d .reply) (q .memories))))) (w .session)
+        ∙ ap (λ (s : Session). veiled i (sums (d .reply)) (filled before (sent i s (says (commandsOf i) (d .reply) (q .memories))))) (w .session)
     buffers-alike false before = refl
 
     causes-of-alike : (t : Bool) → callBy i p t c d .cause ≡ callBy i q t c d .cause
@@ -280,6 +279,24 @@ module _ (i : Input) (p q : State) (w : Twins p q) where
 
 -- ---- a run of inputs
 
+-- what is seen by the reply is what is seen by the decision
+seen-decided : (c : Call) (p : State) → seen c (p .session) (leaves c p) ≡ seenBy (input c) (lent c) (call (input c) p) (done (input c) p)
+seen-decided c p = λ j. record {
+  number = causeNo (call (input c) p .cause);
+  length = length (call (input c) p .reply);
+  session = call (input c) p .state .session;
+  usd = call (input c) p .state .memories .usd;
+  buffer = veiled (input c) (same j) (filled (lent c) (call (input c) p .reply));
+}
+  where
+    l : List ℕ
+    l = call (input c) p .reply
+
+    same : answered (input c) (p .session) (causeNo (call (input c) p .cause)) (take (length l) (filled (lent c) l)) ≡ sums (done (input c) p .reply)
+    same =
+        ap (answered (input c) (p .session) (causeNo (call (input c) p .cause))) (take-at l (drop (length l) (lent c)) (length l) refl)
+        ∙ struck-exactly (input c) p
+
 before : (cs : List Call) (p q : State) → Twins p q → T (shut (inputs cs) p) → Alike cs p q
 unfolding shut seenOf run
 before [] p q w k = record { seen = refl; first = refl; second = refl }
@@ -289,7 +306,7 @@ before (c ∷ cs) p q w k =
     before cs (call (input c) p .state) (call (input c) q .state) (o .twins)
     (both-right (not (opens (input c) p)) (shut (inputs cs) (call (input c) p .state)) k) in
     record {
-      seen = ap₂ {C = List Seen} (λ (x : Seen) (xs : List Seen). x ∷ xs) (o .seen (lent c)) (r .seen);
+      seen = ap₂ {C = List Seen} (λ (x : Seen) (xs : List Seen). x ∷ xs) (seen-decided c p ∙ o .seen (lent c) ∙ sym (seen-decided c q)) (r .seen);
       first = r .first ∙ o .first;
       second = r .second ∙ o .second;
     }

@@ -3,8 +3,8 @@ use Prim.Native.Nat.{ℕ, _<_}
 use mathlib.Core.Path.{_≡_}
 use mathlib.Core.Bool.{Bool, true, false, not, _&&_, _||_}
 use mathlib.Core.List.{List, [], _∷_}
-use lib.ListN.{length, getD}
-use lib.Dec.{T}
+use lib.ListN.{length, getD, take, drop}
+use lib.Dec.{T, eqb}
 use Rattle.words.specs.Lists.{any, all}
 use Rattle.words.specs.Choice.{if_then_else_}
 use Rattle.words.specs.Over.{within}
@@ -25,33 +25,49 @@ use Rattle.uart.specs.Steps as U
 use Rattle.uart.specs.declared.Step as US
 use Rattle.can.specs.Steps as C
 use Rattle.can.specs.declared.Step as CS
+use Rattle.frames.specs.Frames.{classic, frameBytes, frameIn}
 use Rattle.boot.specs.Session.{on, progress}
-use Rattle.boot.specs.Causes.{accepts}
-use Rattle.boot.specs.Calls.{State, powered, Input, brings, viewIn, commandsOf, sent, causeFor, call, done, run}
+use Rattle.boot.specs.Causes.{causeNo}
+use Rattle.boot.specs.Calls.{State, powered, Input, brings, Power, Byte, Framed, viewIn, commandsOf, sent, call, done, run}
 use Rattle.carriers.specs.declared.Carrier.the-variants.{Uart}
 use Rattle.boot.specs.declared.Session.{Session}
-use Rattle.theorems.specs.Secrecy.{inUart, inCan, shut, veiled}
+use Rattle.theorems.specs.Secrecy.{inUart, inCan, shut, struck, veiled}
 
 -- the X of a step that counts bytes, read back from what it expects
 abbrev pub countOfBytes : Session → ℕ
 countOfBytes s = if on Uart s then U.countIn (s .expected) else s .expected
 
--- a reply is one ACK
-abbrev pub acks : Reply → Bool
-acks Silence = false
-acks Ack = true
-acks AckAck = false
-acks (Nack w) = false
-acks (AckNack w) = false
-acks Commands = false
-acks Version = false
-acks DeviceId = false
-acks (Data r at x) = false
-acks (Crc at n) = false
-
 -- the staged bytes, with those that an input brings among them
 abbrev pub stagedAfter : Input → Session → List ℕ
 stagedAfter i s = stagedWith (progress s) (brings i)
+
+-- ---- an ACK and a NACK, as a host sees them
+
+-- bytes are one frame of DLC 1 with this data byte
+abbrev pub isFrameOf : ℕ → List ℕ → Bool
+isFrameOf b l = eqb (frameIn l .dlc) 1 && eqb (getD (frameIn l .bytes) 0 0) b && eqb (length l) (frameBytes classic)
+
+-- a reply is this byte and nothing else, on CAN as a frame
+abbrev pub isOne : ℕ → Input → List ℕ → Bool
+isOne b Power reply = false
+isOne b (Byte room n) reply = eqb (getD reply 0 0) b && eqb (length reply) 1
+isOne b (Framed room l) reply = isFrameOf b reply
+
+-- one ACK
+abbrev pub acked : Input → List ℕ → Bool
+acked i reply = isOne 0x79 i reply
+
+-- an input is the frame of an erase, of ID 0x44 to an idle session
+abbrev pub isErase : Input → Session → Bool
+isErase Power s = false
+isErase (Byte room b) s = false
+isErase (Framed room l) s = inCan CS.Step.Idle s && eqb (frameIn l .id) 0x44
+
+-- one NACK, or on CAN, to a special erase, an ACK and then a NACK
+abbrev pub nacked : Input → Session → List ℕ → Bool
+nacked i s reply =
+    isOne 0x1F i reply
+    || (isFrameOf 0x79 (take (frameBytes classic) reply) && isFrameOf 0x1F (drop (frameBytes classic) reply) && isErase i s)
 
 -- ---- (a) the padding of a last frame was programmed: "a completed write changes at most the X bytes it names, whatever else its last
 -- frame carried"
@@ -81,22 +97,9 @@ OnlyNamedBytes =
 -- ---- (b) half a list was erased before a bad number refused it: "an erase that is refused, for any reason and at any point of its conversation,
 -- leaves every byte of every memory as it was, and no byte of flash changes before the last byte or frame of the list"
 
--- a reply refuses
-abbrev pub refuses : Reply → Bool
-refuses Silence = false
-refuses Ack = false
-refuses AckAck = false
-refuses (Nack w) = true
-refuses (AckNack w) = true
-refuses Commands = false
-refuses Version = false
-refuses DeviceId = false
-refuses (Data r at x) = false
-refuses (Crc at n) = false
-
 -- an input is refused: by one of the five causes, or by a NACK
 abbrev pub isRefused : Input → State → Bool
-isRefused i p = not (accepts (causeFor i p)) || refuses (done i p .reply)
+isRefused i p = not (eqb (causeNo (call i p .cause)) 0) || nacked i (p .session) (call i p .reply)
 
 -- a session is inside an erase
 abbrev pub inErase : Session → Bool
@@ -124,7 +127,7 @@ pub record EraseAllOrNothing : Type 0 where
   pub together : (is : List Input) (i : Input) (p : State) → T (erasePending is p) → T (isRefused i (run is p))
       → call i (run is p) .state .memories ≡ p .memories
   -- and a list that is accepted holds only sectors of the board, none of them write-protected
-  pub accepted : (i : Input) (p : State) → T (inEraseList (p .session)) → T (acks (done i p .reply))
+  pub accepted : (i : Input) (p : State) → T (inEraseList (p .session)) → T (acked i (call i p .reply))
       → T (all isSector (toErase i (p .session))) × T (not (any (writeProtected (viewIn p)) (toErase i (p .session))))
 
 -- ---- (c) a locked board was read: "a board that is locked when it is powered on never decides to read, whatever comes in, until an obeyed Access
@@ -155,7 +158,7 @@ pub record Unread (p : State) : Type 0 where
   pub never : (is : List Input) (i : Input) → T (shut is p) → T (not (reads (done i (run is p) .reply)))
   -- and what is sent is the same for any memories, but for a CRC value
   pub blind : (is : List Input) (i : Input) → T (shut is p) → (m n : Memories)
-      → veiled i (done i (run is p) .reply) (sentWith m i (run is p)) ≡ veiled i (done i (run is p) .reply) (sentWith n i (run is p))
+      → veiled i (struck i (run is p)) (sentWith m i (run is p)) ≡ veiled i (struck i (run is p)) (sentWith n i (run is p))
 
 -- a board that is locked when it is powered on
 abbrev pub NeverRead : Type 0
@@ -183,5 +186,40 @@ pub record Protects (ks : List Sector) (m n : Memories) : Type 0 where
 
 abbrev pub ExactlyNamed : Type 0
 ExactlyNamed =
-    (i : Input) (p : State) → T (inProtect (p .session)) → T (acks (done i p .reply))
+    (i : Input) (p : State) → T (inProtect (p .session)) → T (acked i (call i p .reply))
     → Protects (toProtect i (p .session)) (p .memories) (call i p .state .memories)
+
+-- ---- what is seen is what was decided
+
+-- a reply is one ACK
+abbrev pub acks : Reply → Bool
+acks Silence = false
+acks Ack = true
+acks AckAck = false
+acks (Nack w) = false
+acks (AckNack w) = false
+acks Commands = false
+acks Version = false
+acks DeviceId = false
+acks (Data r at x) = false
+acks (Crc at n) = false
+
+-- a reply refuses
+abbrev pub refuses : Reply → Bool
+refuses Silence = false
+refuses Ack = false
+refuses AckAck = false
+refuses (Nack w) = true
+refuses (AckNack w) = true
+refuses Commands = false
+refuses Version = false
+refuses DeviceId = false
+refuses (Data r at x) = false
+refuses (Crc at n) = false
+
+-- so the two tests on a reply above tell what was decided
+pub record OnTheWire : Type 0 where
+  -- any NACK, in any state
+  pub refusal : (i : Input) (p : State) → nacked i (p .session) (call i p .reply) ≡ refuses (done i p .reply)
+  -- an ACK to a list of sectors
+  pub acceptance : (i : Input) (p : State) → T (inEraseList (p .session) || inProtect (p .session)) → acked i (call i p .reply) ≡ acks (done i p .reply)

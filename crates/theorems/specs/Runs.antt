@@ -38,7 +38,7 @@ Ran (c ∷ cs) p (l ∷ ls) = Kept c p l × Ran cs (boardIn l) ls
 unfoldable pub seenIn : List Call → State → List Left → List Seen
 seenIn [] p ls = []
 seenIn (c ∷ cs) p [] = []
-seenIn (c ∷ cs) p (l ∷ ls) = seen c p l ∷ seenIn cs (boardIn l) ls
+seenIn (c ∷ cs) p (l ∷ ls) = seen c (p .session) l ∷ seenIn cs (boardIn l) ls
 
 -- the board at the end
 unfoldable pub endOf : State → List Left → State

@@ -6,7 +6,7 @@ use Prim.Native.Nat.{ℕ, _+_}
 use mathlib.Core.Path.{_≡_}
 use mathlib.Core.Bool.{Bool, true, false, not, _&&_}
 use mathlib.Core.List.{List, [], _∷_, _++_, map}
-use lib.ListN.{length, getD, drop, replicate}
+use lib.ListN.{length, getD, take, drop, replicate}
 use Rattle.words.specs.Bytes.{fourBytes}
 use lib.Dec.{T, eqb}
 use Rattle.words.specs.Over.{put}
@@ -73,6 +73,44 @@ unfoldable pub shut : List Input → State → Bool
 shut [] p = true
 shut (i ∷ is) p = not (opens i p) && shut is (call i p .state)
 
+-- ---- an answered Firmware CRC
+
+-- a reply holds a CRC value
+abbrev pub sums : Reply → Bool
+sums Silence = false
+sums Ack = false
+sums AckAck = false
+sums (Nack w) = false
+sums (AckNack w) = false
+sums Commands = false
+sums Version = false
+sums DeviceId = false
+sums (Data r at x) = false
+sums (Crc at n) = true
+
+-- an input is the last of a Firmware CRC: on UART the third byte to a session in the step CRC count, and on CAN a frame of ID 0xAC to an idle session
+abbrev pub isSum : Input → Session → Bool
+isSum Power s = false
+isSum (Byte room b) s = inUart US.Step.CrcCount s && eqb (s .taken) 2
+isSum (Framed room l) s = inCan CS.Step.Idle s && eqb (frameIn l .id) 0xAC
+
+-- a reply begins with ACK: on UART its first byte is 0x79, and on CAN the first data byte of its first frame
+abbrev pub beginsWithAck : Input → List ℕ → Bool
+beginsWithAck Power reply = false
+beginsWithAck (Byte room b) reply = eqb (getD reply 0 0) 0x79
+beginsWithAck (Framed room l) reply = eqb (getD (frameIn reply .bytes) 0 0) 0x79
+
+-- a Firmware CRC is answered, as a host sees it: by an input, the session given, the number and the reply
+abbrev pub answered : Input → Session → ℕ → List ℕ → Bool
+answered i s number reply = eqb number 0 && isSum i s && beginsWithAck i reply
+
+abbrev pub struck : Input → State → Bool
+struck i p = answered i (p .session) (causeNo (call i p .cause)) (call i p .reply)
+
+-- a CRC value is sent exactly there, in any state
+abbrev pub StruckExactly : Type 0
+StruckExactly = (i : Input) (p : State) → struck i p ≡ sums (done i p .reply)
+
 -- ---- what is given to a board
 
 -- the three calls, each with what it is given: nothing; a reply buffer as it is beforehand and a UART byte; such a buffer and a CAN frame's slice
@@ -128,18 +166,10 @@ valueAt Power = 0
 valueAt (Byte room b) = 1
 valueAt (Framed room l) = frameBytes classic + headBytes
 
--- bytes that begin with a reply, of which the four value bytes of a Firmware CRC answer are struck out, and nothing else
-abbrev pub veiled : Input → Reply → List ℕ → List ℕ
-veiled i Silence l = l
-veiled i Ack l = l
-veiled i AckAck l = l
-veiled i (Nack w) l = l
-veiled i (AckNack w) l = l
-veiled i Commands l = l
-veiled i Version l = l
-veiled i DeviceId l = l
-veiled i (Data r at x) l = l
-veiled i (Crc at n) l = put l (valueAt i) (replicate valueBytes 0)
+-- bytes that begin with a reply, of which the four value bytes are struck out where a Firmware CRC is answered, and nothing else
+abbrev pub veiled : Input → Bool → List ℕ → List ℕ
+veiled i true l = put l (valueAt i) (replicate valueBytes 0)
+veiled i false l = l
 
 -- all that a call leaves, but for flash, SRAM and a CRC value; the reply is so many bytes at the front of the buffer
 pub record Seen : Type 0 where
@@ -149,20 +179,20 @@ pub record Seen : Type 0 where
   pub usd : List ℕ
   pub buffer : List ℕ
 
--- of what a call on a board has left
-abbrev pub seen : Call → State → Left → Seen
-seen c p l = record {
+-- of what a call has left that was given a session
+abbrev pub seen : Call → Session → Left → Seen
+seen c s l = record {
   number = l .result .number;
   length = l .result .length;
   session = l .result .session;
   usd = l .usd;
-  buffer = veiled (input c) (done (input c) p .reply) (l .buffer);
+  buffer = veiled (input c) (answered (input c) s (l .result .number) (take (l .result .length) (l .buffer))) (l .buffer);
 }
 
 -- call by call over a run
 unfoldable pub seenOf : List Call → State → List Seen
 seenOf [] p = []
-seenOf (c ∷ cs) p = seen c p (leaves c p) ∷ seenOf cs (call (input c) p .state)
+seenOf (c ∷ cs) p = seen c (p .session) (leaves c p) ∷ seenOf cs (call (input c) p .state)
 
 -- ---- what demand 3 says of two boards
 

@@ -2,10 +2,10 @@
 // proof is missing.
 ghost use Rattle.theorems.specs.Talk.{WorkedTalk};
 ghost use Rattle.theorems.specs.Longest.{NoLongerCommand};
-ghost use Rattle.theorems.specs.Secrecy.{OpensExactly, Demand3};
+ghost use Rattle.theorems.specs.Secrecy.{OpensExactly, StruckExactly, Demand3};
 ghost use Rattle.theorems.specs.Runs.{RunsOnce, Demand3OfCode};
 ghost use Rattle.theorems.specs.Determined.{Determined};
-ghost use Rattle.theorems.specs.Failures.{OnlyNamedBytes, EraseAllOrNothing, NeverRead, ExactlyNamed};
+ghost use Rattle.theorems.specs.Failures.{OnlyNamedBytes, EraseAllOrNothing, NeverRead, ExactlyNamed, OnTheWire};
 
 // Every starred row of the worked talk is answered as the paper has it.
 pub fn worked_talk()
@@ -37,6 +37,11 @@ pub fn opens_exactly()
     ensures { λ _. ⌜ OpensExactly ⌝ }
 {}
 
+// Where the four value bytes of a CRC answer are struck out: where the last input of a Firmware CRC is accepted and its reply begins with ACK.
+pub fn struck_exactly()
+    ensures { λ _. ⌜ StruckExactly ⌝ }
+{}
+
 // Two outcomes that keep a call's promise are equal.
 pub fn determinism()
     ensures { λ _. ⌜ Determined ⌝ }
@@ -60,4 +65,9 @@ pub fn never_read()
 // Failure (d): after an accepted 0x63 exactly the named sectors are protected.
 pub fn exactly_named()
     ensures { λ _. ⌜ ExactlyNamed ⌝ }
+{}
+
+// A host sees a NACK, or the ACK to a list of sectors, exactly where the board has refused, or has accepted.
+pub fn on_the_wire()
+    ensures { λ _. ⌜ OnTheWire ⌝ }
 {}

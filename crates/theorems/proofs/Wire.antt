@@ -1,0 +1,400 @@
+-- What a host sees tells what was decided. A CRC value, bytes that are read, and an ACK with a NACK behind it are each the answer to one command alone,
+-- and every other reply is known by its bytes; a Firmware CRC is answered with its value or with a NACK.
+use mathlib.Core.Path.{_≡_, refl, sym, ap, ap₂, _∙_, subst}
+use mathlib.Core.Bool.{Bool, true, false, not, _&&_, _||_, or-comm}
+use mathlib.Core.List.{List, [], _∷_}
+use Prim.Native.Nat.{ℕ, _+_}
+use native.Mathlib.Omega.{arith}
+use lib.Dec.{T, T-not, eqb, eqb→eq}
+use lib.ListN.{take, drop}
+use Rattle.words.specs.Choice.{if_then_else_}
+use Rattle.words.proofs.Tests.{both-left, both-right, holds-true, fails-false}
+use Rattle.constants.specs.declared.Address.{Address}
+use Rattle.board.specs.declared.Region.the-variants.{Flash, Sram, Usd}
+use Rattle.board.specs.declared.View.{View}
+use Rattle.memories.specs.Memories.{Memories}
+use Rattle.command.specs.Commands.{canCommands, lookUp}
+use Rattle.command.specs.Decision.{if_gives_else_, answer, nack}
+use Rattle.command.specs.Progress.{Progress, short}
+use Rattle.command.specs.Says.{says}
+use Rattle.command.specs.declared.Command.the-variants.{FirmwareCrc}
+use Rattle.command.specs.declared.Decision.{Decision}
+use Rattle.command.specs.declared.Lookup.the-variants.{Known}
+use Rattle.command.specs.declared.Next.{Next}
+use Rattle.command.specs.declared.Next.the-variants.{Stay}
+use Rattle.command.specs.declared.Reply.{Reply}
+use Rattle.command.specs.declared.Reply.the-variants.{Silence, Ack, AckAck, Nack, AckNack, Commands, Version, DeviceId, Data, Crc}
+use Rattle.command.specs.declared.Why.{Why}
+use Rattle.rules.specs.Rules.{summing}
+use Rattle.uart.specs.Steps as U
+use Rattle.uart.specs.Conversation as UC
+use Rattle.uart.specs.declared.Step as US
+use Rattle.can.specs.Steps as C
+use Rattle.can.specs.Conversation as CC
+use Rattle.can.specs.declared.Step as CS
+use Rattle.frames.specs.Frames.{Frame, frameIn, carried}
+use Rattle.carriers.specs.declared.Carrier.the-variants.{Uart, Can}
+use Rattle.boot.specs.Session.{on, sound, progress}
+use Rattle.boot.specs.Decide.{connected, decideByte, decideFrame}
+use Rattle.boot.specs.Causes.{causeNo, accepts}
+use Rattle.boot.specs.Calls.{State, Input, Power, Byte, Framed, commandsOf, viewIn, causeFor, decide, sent, perform, refused, call, done}
+use Rattle.boot.specs.declared.Cause.{Cause}
+use Rattle.boot.specs.declared.Cause.the-variants.{Accepted, WrongMemory, ShortReply, BadFrame, UnsoundSession, BoardRunning}
+use Rattle.boot.specs.declared.Session.{Session}
+use Rattle.command.proofs.Holds.{Holds, either, split}
+use Rattle.rules.proofs.Unless.{unless-either}
+use Rattle.theorems.specs.Secrecy.{inUart, inCan, sums, isSum, beginsWithAck, StruckExactly}
+use Rattle.theorems.specs.Failures.{acks, refuses, isFrameOf, isOne, acked, isErase, nacked, inEraseList, inProtect, sentWith, OnTheWire}
+use Rattle.theorems.proofs.InStep.{step-on, uart-step, can-step, expects-at, last-taken, isCall, accepted-sound}
+use Rattle.theorems.proofs.Made.{common, Parts, OnInput, summing-made, decide-made}
+
+-- ---- number and reply
+
+-- a call's number is 0 exactly if it is accepted
+pub number-accepts : (i : Input) (p : State) → eqb (causeNo (call i p .cause)) 0 ≡ accepts (causeFor i p)
+unfolding call perform
+number-accepts i p = by-cause (causeFor i p)
+  where
+    by-cause : (c : Cause)
+        → eqb (causeNo ((if accepts c then perform i p (decide i (p .session) (viewIn p)) else refused c p) .cause)) 0 ≡ accepts c
+    by-cause Accepted = refl
+    by-cause WrongMemory = refl
+    by-cause ShortReply = refl
+    by-cause BadFrame = refl
+    by-cause UnsoundSession = refl
+    by-cause BoardRunning = refl
+
+-- what is done, by whether a call is accepted and its decision
+abbrev pub doneBy : Bool → Decision → Decision
+doneBy t d = if t gives d else answer Silence Stay
+
+-- a refused call replies nothing, an accepted one what it decided
+pub replied : (i : Input) (p : State) → call i p .reply ≡ sentWith (p .memories) i p
+unfolding call done perform if_gives_else_ sent says
+replied i p = by-test (accepts (causeFor i p)) (decide i (p .session) (viewIn p))
+  where
+    silent : (j : Input) → [] ≡ sent j (p .session) (says (commandsOf j) Silence (p .memories))
+    silent Power = refl
+    silent (Byte room b) = refl
+    silent (Framed room l) = refl
+
+    by-test : (t : Bool) (d : Decision) → (if t then perform i p d else refused (causeFor i p) p) .reply
+        ≡ sent i (p .session) (says (commandsOf i) (doneBy t d .reply) (p .memories))
+    by-test true d = refl
+    by-test false d = silent i
+
+-- ---- replies that only one command is given
+
+-- an input is the last of a read
+abbrev isRead : Input → Session → Bool
+isRead Power s = false
+isRead (Byte room b) s = inUart US.Step.ReadLength s
+isRead (Framed room l) s = inCan CS.Step.Idle s && eqb (frameIn l .id) 0x11
+
+-- a reply may be given to an input
+abbrev mayBe : Input → Session → Reply → Bool
+mayBe i s Silence = true
+mayBe i s Ack = true
+mayBe i s AckAck = true
+mayBe i s (Nack w) = true
+mayBe i s (AckNack w) = isErase i s
+mayBe i s Commands = true
+mayBe i s Version = true
+mayBe i s DeviceId = true
+mayBe i s (Data r at x) = isRead i s
+mayBe i s (Crc at n) = isSum i s
+
+module _ (i : Input) (s : Session) where
+  abbrev MayBe : Decision → Type 0
+  MayBe d = T (mayBe i s (d .reply))
+
+  parts : Parts MayBe
+  parts = record {
+    told = told;
+    written = λ r at x. record { holds = tt };
+    erased = λ x. record { holds = tt };
+    cleared = record { holds = tt };
+    clearedOnCan = record { holds = tt };
+    protected = λ x. record { holds = tt };
+    released = record { holds = tt };
+    locked = record { holds = tt };
+  }
+    where
+      by-reply : (r : Reply) → T (common r) → T (mayBe i s r)
+      by-reply Silence h = tt
+      by-reply Ack h = tt
+      by-reply AckAck h = tt
+      by-reply (Nack w) h = tt
+      by-reply (AckNack w) h = absurd h
+      by-reply Commands h = tt
+      by-reply Version h = tt
+      by-reply DeviceId h = tt
+      by-reply (Data r at x) h = absurd h
+      by-reply (Crc at n) h = absurd h
+
+      told : {r : Reply} {n : Next} → T (common r) → Holds MayBe (answer r n)
+      told {r} h = record { holds = by-reply r h }
+
+decide-may : (i : Input) (s : Session) (view : View) → (T (isCall i) → T (sound s)) → Holds (MayBe i s) (decide i s view)
+decide-may i s view f = decide-made (MayBe i s) (parts i s) i s view (by-input i f)
+  where
+    by-input : (j : Input) → (T (isCall j) → T (sound s)) → OnInput (MayBe j s) j s
+    by-input Power f = tt
+    by-input (Byte room b) f = λ o. record {
+      unlocked = λ k. record { holds = tt };
+      read = λ k r at x. record { holds = rw (eqb→eq (s .carrier) 1 o, sym (uart-step s (f tt) o) ∙ k .step) tt };
+      summed = λ k at n.
+          let e : s .step ≡ 13 = sym (uart-step s (f tt) o) ∙ k .step in
+          let w : s .expected ≡ 3 = eqb→eq (s .expected) 3 (expects-at s (f tt) 13 o e) in
+          let c : s .taken ≡ 2 = omega (arith, last-taken s (f tt) b (k .long)) in
+          record { holds = rw (eqb→eq (s .carrier) 1 o, e, c) tt };
+      halved = λ k w. absurd k;
+    }
+    by-input (Framed room l) f = λ o. record {
+      unlocked = λ k. record { holds = tt };
+      read = λ k r at x. record { holds = rw (eqb→eq (s .carrier) 2 o, sym (can-step s (f tt) o) ∙ k .idle, k .command) tt };
+      summed = λ k at n. record { holds = rw (eqb→eq (s .carrier) 2 o, sym (can-step s (f tt) o) ∙ k .idle, k .command) tt };
+      halved = λ k w. record { holds = rw (eqb→eq (s .carrier) 2 o, sym (can-step s (f tt) o) ∙ k .idle, k .command) tt };
+    }
+
+done-may : (i : Input) (p : State) → T (mayBe i (p .session) (done i p .reply))
+unfolding done if_gives_else_
+done-may i p = by-test (accepts (causeFor i p)) (λ c t. accepted-sound i p c t)
+  where
+    by-test : (t : Bool) → (T (isCall i) → T t → T (sound (p .session)))
+        → T (mayBe i (p .session) (doneBy t (decide i (p .session) (viewIn p)) .reply))
+    by-test true f = decide-may i (p .session) (viewIn p) (λ c. f c tt) .holds
+    by-test false f = tt
+
+-- ---- a Firmware CRC is answered with its value or with a NACK
+
+abbrev valueOrNack : Reply → Bool
+valueOrNack Silence = false
+valueOrNack Ack = false
+valueOrNack AckAck = false
+valueOrNack (Nack w) = true
+valueOrNack (AckNack w) = false
+valueOrNack Commands = false
+valueOrNack Version = false
+valueOrNack DeviceId = false
+valueOrNack (Data r at x) = false
+valueOrNack (Crc at n) = true
+
+abbrev Sums : Decision → Type 0
+Sums d = T (valueOrNack (d .reply))
+
+refusal : (w : Why) → Holds Sums (nack w)
+refusal w = record { holds = tt }
+
+summing-sums : (a : Address) (x : ℕ) → Holds Sums (summing a x)
+summing-sums = summing-made Sums refusal (λ at n. record { holds = tt })
+
+uart-sums : (p : Progress) (view : View) (b : ℕ) → T (not (short p (b ∷ []))) → Holds Sums (UC.heard US.Step.CrcCount p view b)
+unfolding UC.heard UC.complete
+uart-sums p view b l =
+    split Sums (short p (b ∷ [])) (λ h. absurd (T-not (short p (b ∷ [])) l h)) (λ h. either Sums _ (summing-sums _ _) (refusal _))
+
+can-known : (view : View) (d : List ℕ) → Holds Sums (CC.commanded view d (Known FirmwareCrc))
+unfolding CC.commanded CC.obeyed
+can-known view d = either Sums _ (unless-either Sums view FirmwareCrc refusal (summing-sums _ _)) (refusal _)
+
+can-sums : (p : Progress) (view : View) (f : Frame) → f .id ≡ 0xAC → Holds Sums (CC.heard CS.Step.Idle p view f)
+unfolding CC.heard CC.decided
+can-sums p view f e = subst (λ (n : ℕ). Holds Sums (CC.commanded view (carried f) (lookUp canCommands n))) (sym e) (can-known view (carried f))
+
+decide-sums : (i : Input) (s : Session) (view : View) → T (sound s) → T (isSum i s) → Holds Sums (decide i s view)
+unfolding decide decideByte decideFrame connected
+decide-sums Power s view t h = absurd h
+decide-sums (Byte room b) s view t h =
+    let k : T (on Uart s && eqb (s .step) 13) = both-left (on Uart s && eqb (s .step) 13) (eqb (s .taken) 2) h in
+    let o : T (on Uart s) = both-left (on Uart s) (eqb (s .step) 13) k in
+    let e : s .step ≡ 13 = eqb→eq (s .step) 13 (both-right (on Uart s) (eqb (s .step) 13) k) in
+    let w : s .expected ≡ 3 = eqb→eq (s .expected) 3 (expects-at s t 13 o e) in
+    let c : s .taken ≡ 2 = eqb→eq (s .taken) 2 (both-right (on Uart s && eqb (s .step) 13) (eqb (s .taken) 2) h) in
+    split Sums (on Uart s)
+    (λ q. subst (λ (m : ℕ). Holds Sums (UC.heard (U.stepOf m) (progress s) view b)) (sym e) (uart-sums (progress s) view b (rw (c, w) tt)))
+    (λ q. absurd (T-not (on Uart s) q o))
+decide-sums (Framed room l) s view t h =
+    let k : T (on Can s && eqb (s .step) 0) = both-left (on Can s && eqb (s .step) 0) (eqb (frameIn l .id) 0xAC) h in
+    let o : T (on Can s) = both-left (on Can s) (eqb (s .step) 0) k in
+    let e : s .step ≡ 0 = eqb→eq (s .step) 0 (both-right (on Can s) (eqb (s .step) 0) k) in
+    let c : frameIn l .id ≡ 0xAC = eqb→eq (frameIn l .id) 0xAC (both-right (on Can s && eqb (s .step) 0) (eqb (frameIn l .id) 0xAC) h) in
+    split Sums (on Can s)
+    (λ q. subst (λ (m : ℕ). Holds Sums (CC.heard (C.stepOf m) (progress s) view (frameIn l))) (sym e) (can-sums (progress s) view (frameIn l) c))
+    (λ q. absurd (T-not (on Can s) q o))
+
+-- ---- tests
+
+never : (a b : Bool) → (T a → ⊥) → (a && b) ≡ false
+never true b f = absurd (f tt)
+never false b f = refl
+
+no-second : (a b : Bool) → (T b → ⊥) → (a && b) ≡ false
+no-second true true f = absurd (f tt)
+no-second true false f = refl
+no-second false b f = refl
+
+-- ---- by the reply
+
+-- what is sent of a reply
+abbrev saying : Input → Session → Reply → Memories → List ℕ
+saying i s r m = sent i s (says (commandsOf i) r m)
+
+-- an ACK at the front of the answer to a Firmware CRC tells that its value follows
+sum-seen : (i : Input) (s : Session) (r : Reply) (m : Memories) → T (mayBe i s r) → (T (isSum i s) → T (valueOrNack r))
+    → (isSum i s && beginsWithAck i (saying i s r m)) ≡ sums r
+unfolding says sent
+sum-seen i s Silence m h f = never (isSum i s) _ f
+sum-seen i s Ack m h f = never (isSum i s) _ f
+sum-seen i s AckAck m h f = never (isSum i s) _ f
+sum-seen Power s (Nack w) m h f = refl
+sum-seen (Byte room b) s (Nack w) m h f = no-second (isSum (Byte room b) s) false (λ k. k)
+sum-seen (Framed room l) s (Nack w) m h f = no-second (isSum (Framed room l) s) false (λ k. k)
+sum-seen i s (AckNack w) m h f = never (isSum i s) _ f
+sum-seen i s Commands m h f = never (isSum i s) _ f
+sum-seen i s Version m h f = never (isSum i s) _ f
+sum-seen i s DeviceId m h f = never (isSum i s) _ f
+sum-seen i s (Data r at x) m h f = never (isSum i s) _ f
+sum-seen Power s (Crc at n) m h f = absurd h
+sum-seen (Byte room b) s (Crc at n) m h f = rw (holds-true (isSum (Byte room b) s) h) refl
+sum-seen (Framed room l) s (Crc at n) m h f = rw (holds-true (isSum (Framed room l) s) h) refl
+
+-- a frame of one ID is not of another
+read-no-erase : (i : Input) (s : Session) → T (isRead i s) → T (isErase i s) → ⊥
+read-no-erase Power s h k = h
+read-no-erase (Byte room b) s h k = k
+read-no-erase (Framed room l) s h k =
+    let x : frameIn l .id ≡ 0x11 = eqb→eq (frameIn l .id) 0x11 (both-right (inCan CS.Step.Idle s) (eqb (frameIn l .id) 0x11) h) in
+    let y : frameIn l .id ≡ 0x44 = eqb→eq (frameIn l .id) 0x44 (both-right (inCan CS.Step.Idle s) (eqb (frameIn l .id) 0x44) k) in omega arith
+
+-- where an input is no erase, a NACK is one byte
+lone-nack : (i : Input) (s : Session) (l : List ℕ) → (T (isErase i s) → ⊥) → nacked i s l ≡ isOne 0x1F i l
+lone-nack i s l f =
+    by-tests (isOne 0x1F i l) (isFrameOf 0x79 (take 11 l) && isFrameOf 0x1F (drop 11 l)) (isErase i s) f
+  where
+    by-tests : (a b c : Bool) → (T c → ⊥) → (a || (b && c)) ≡ a
+    by-tests true b c f = refl
+    by-tests false true true f = absurd (f tt)
+    by-tests false true false f = refl
+    by-tests false false c f = refl
+
+nack-seen : (i : Input) → T (isCall i) → (s : Session) (r : Reply) (m : Memories) → T (mayBe i s r)
+    → nacked i s (saying i s r m) ≡ refuses r
+unfolding says sent
+nack-seen Power c s r m h = absurd c
+nack-seen (Byte room b) c s Silence m h = refl
+nack-seen (Byte room b) c s Ack m h = refl
+nack-seen (Byte room b) c s AckAck m h = refl
+nack-seen (Byte room b) c s (Nack w) m h = refl
+nack-seen (Byte room b) c s (AckNack w) m h = absurd h
+nack-seen (Byte room b) c s Commands m h = refl
+nack-seen (Byte room b) c s Version m h = refl
+nack-seen (Byte room b) c s DeviceId m h = refl
+nack-seen (Byte room b) c s (Data r at x) m h = lone-nack (Byte room b) s (saying (Byte room b) s (Data r at x) m) (λ k. k)
+nack-seen (Byte room b) c s (Crc at n) m h = lone-nack (Byte room b) s (saying (Byte room b) s (Crc at n) m) (λ k. k)
+nack-seen (Framed room l) c s Silence m h = refl
+nack-seen (Framed room l) c s Ack m h = refl
+nack-seen (Framed room l) c s AckAck m h = refl
+nack-seen (Framed room l) c s (Nack w) m h = refl
+nack-seen (Framed room l) c s (AckNack w) m h = holds-true (isErase (Framed room l) s) h
+nack-seen (Framed room l) c s Commands m h = refl
+nack-seen (Framed room l) c s Version m h = refl
+nack-seen (Framed room l) c s DeviceId m h = refl
+nack-seen (Framed room l) c s (Data r at x) m h =
+    lone-nack (Framed room l) s (saying (Framed room l) s (Data r at x) m) (read-no-erase (Framed room l) s h)
+nack-seen (Framed room l) c s (Crc at n) m h = refl
+
+ack-seen : (i : Input) → T (isCall i) → (s : Session) (r : Reply) (m : Memories) → T (mayBe i s r) → (T (isRead i s) → ⊥)
+    → acked i (saying i s r m) ≡ acks r
+unfolding says sent
+ack-seen Power c s r m h f = absurd c
+ack-seen (Byte room b) c s Silence m h f = refl
+ack-seen (Byte room b) c s Ack m h f = refl
+ack-seen (Byte room b) c s AckAck m h f = refl
+ack-seen (Byte room b) c s (Nack w) m h f = refl
+ack-seen (Byte room b) c s (AckNack w) m h f = refl
+ack-seen (Byte room b) c s Commands m h f = refl
+ack-seen (Byte room b) c s Version m h f = refl
+ack-seen (Byte room b) c s DeviceId m h f = refl
+ack-seen (Byte room b) c s (Data r at x) m h f = absurd (f h)
+ack-seen (Byte room b) c s (Crc at n) m h f = refl
+ack-seen (Framed room l) c s Silence m h f = refl
+ack-seen (Framed room l) c s Ack m h f = refl
+ack-seen (Framed room l) c s AckAck m h f = refl
+ack-seen (Framed room l) c s (Nack w) m h f = refl
+ack-seen (Framed room l) c s (AckNack w) m h f = refl
+ack-seen (Framed room l) c s Commands m h f = refl
+ack-seen (Framed room l) c s Version m h f = refl
+ack-seen (Framed room l) c s DeviceId m h f = refl
+ack-seen (Framed room l) c s (Data r at x) m h f = absurd (f h)
+ack-seen (Framed room l) c s (Crc at n) m h f = refl
+
+-- a session inside a list is in no read
+not-read : (i : Input) (s : Session) (m n : ℕ) → (m ≡ 5 → ⊥) → (n ≡ 0 → ⊥)
+    → T ((on Uart s && eqb (s .step) m) || (on Can s && eqb (s .step) n)) → T (isRead i s) → ⊥
+not-read Power s m n f g h k = k
+not-read (Byte room b) s m n f g h k =
+    let e : s .step ≡ m = step-on Uart Can s m n (λ e. omega arith) h (both-left (on Uart s) (eqb (s .step) 5) k) in
+    f (sym e ∙ eqb→eq (s .step) 5 (both-right (on Uart s) (eqb (s .step) 5) k))
+not-read (Framed room l) s m n f g h k =
+    let q : T (on Can s && eqb (s .step) 0) = both-left (on Can s && eqb (s .step) 0) (eqb (frameIn l .id) 0x11) k in
+    let e : s .step ≡ n = step-on Can Uart s n m (λ e. omega arith) (rw or-comm at h) (both-left (on Can s) (eqb (s .step) 0) q) in
+    g (sym e ∙ eqb→eq (s .step) 0 (both-right (on Can s) (eqb (s .step) 0) q))
+
+list-not-read : (i : Input) (s : Session) → T (inEraseList s || inProtect s) → T (isRead i s) → ⊥
+list-not-read i s h k =
+    by-test (inEraseList s) (λ e. not-read i s 10 2 (λ z. omega arith) (λ z. omega arith) e k) (inProtect s)
+    (λ e. not-read i s 12 3 (λ z. omega arith) (λ z. omega arith) e k) h
+  where
+    by-test : (a : Bool) → (T a → ⊥) → (b : Bool) → (T b → ⊥) → T (a || b) → ⊥
+    by-test true f b g h = f tt
+    by-test false f b g h = g h
+
+-- ---- any call
+
+pub struck-exactly : StruckExactly
+unfolding done if_gives_else_
+struck-exactly i p =
+    ap₂ (λ (t : Bool) (l : List ℕ). (t && isSum i (p .session)) && beginsWithAck i l) (number-accepts i p) (replied i p)
+    ∙ by-test (accepts (causeFor i p)) (λ c t. accepted-sound i p c t) (done-may i p)
+  where
+    d : Decision
+    d = decide i (p .session) (viewIn p)
+
+    call-sums : (i : Input) → T (isSum i (p .session)) → T (isCall i)
+    call-sums Power h = h
+    call-sums (Byte room b) h = tt
+    call-sums (Framed room l) h = tt
+
+    by-test : (t : Bool) → (T (isCall i) → T t → T (sound (p .session))) → T (mayBe i (p .session) (doneBy t d .reply))
+        → ((t && isSum i (p .session)) && beginsWithAck i (sent i (p .session) (says (commandsOf i) (doneBy t d .reply) (p .memories))))
+        ≡ sums (doneBy t d .reply)
+    by-test true f h =
+        sum-seen i (p .session) (d .reply) (p .memories) h
+        (λ k. decide-sums i (p .session) (viewIn p) (f (call-sums i k) tt) k .holds)
+    by-test false f h = refl
+
+module _ (p : State) where
+  call-nacked : (i : Input) → T (isCall i) → nacked i (p .session) (call i p .reply) ≡ refuses (done i p .reply)
+  call-nacked i c = ap (nacked i (p .session)) (replied i p) ∙ nack-seen i c (p .session) (done i p .reply) (p .memories) (done-may i p)
+
+  any-nacked : (i : Input) → nacked i (p .session) (call i p .reply) ≡ refuses (done i p .reply)
+  unfolding call done causeFor decide perform if_gives_else_ sent
+  any-nacked Power = refl
+  any-nacked (Byte room b) = call-nacked (Byte room b) tt
+  any-nacked (Framed room l) = call-nacked (Framed room l) tt
+
+  module _ (h : T (inEraseList (p .session) || inProtect (p .session))) where
+    call-acked : (i : Input) → T (isCall i) → acked i (call i p .reply) ≡ acks (done i p .reply)
+    call-acked i c =
+        ap (acked i) (replied i p)
+        ∙ ack-seen i c (p .session) (done i p .reply) (p .memories) (done-may i p) (list-not-read i (p .session) h)
+
+    any-acked : (i : Input) → acked i (call i p .reply) ≡ acks (done i p .reply)
+    unfolding done causeFor decide if_gives_else_
+    any-acked Power = refl
+    any-acked (Byte room b) = call-acked (Byte room b) tt
+    any-acked (Framed room l) = call-acked (Framed room l) tt
+
+pub on-the-wire : OnTheWire
+on-the-wire = record { refusal = λ i p. any-nacked p i; acceptance = λ i p h. any-acked p h i }
