@@ -130,7 +130,8 @@ accepted-list : (i : Input) (p : State) → T (inEraseList (p .session)) → T (
 unfolding done if_gives_else_
 accepted-list i p h a =
     let ks = toErase i (p .session) in
-    let g : T (erasable (viewIn p) ks) = decide-erase i (p .session) (viewIn p) h (by-test (accepts (causeFor i p)) (subst T (on-the-wire .acceptance i p (rw (holds-true (inEraseList (p .session)) h) tt)) a)) in (
+    let e : acked i (call i p .reply) ≡ acks (done i p .reply) = on-the-wire .acceptance i p (rw (holds-true (inEraseList (p .session)) h) tt) in
+    let g : T (erasable (viewIn p) ks) = decide-erase i (p .session) (viewIn p) h (by-test (accepts (causeFor i p)) (subst T e a)) in (
       both-left (all isSector ks) (not (any (writeProtected (viewIn p)) ks)) g,
       both-right (all isSector ks) (not (any (writeProtected (viewIn p)) ks)) g,
     )

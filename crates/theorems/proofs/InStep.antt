@@ -5,14 +5,14 @@ use mathlib.Core.List.{List, [], _∷_, map}
 use Prim.Native.Nat.{ℕ, zero, suc, _+_, _<_}
 use native.Mathlib.Nat.{le-of-suc-le-suc, not-suc-le-zero}
 use native.Mathlib.Omega.{arith}
-use lib.Dec.{T, not-T, eqb, leb, ltb, eqb→eq, ltb→lt, nltb→le}
+use lib.Dec.{T, not-T, T-not, eqb, leb, ltb, eqb→eq, ltb→lt, nltb→le}
 use lib.ListN.{length, getD}
 use Rattle.words.specs.Choice.{if_then_else_}
 use Rattle.words.specs.Lists.{countFrom}
-use Rattle.words.proofs.Tests.{both-left, holds-true}
+use Rattle.words.proofs.Tests.{both-left, both-right, holds-true}
 use Rattle.board.specs.declared.View.{View}
 use Rattle.memories.specs.Memories.{proper}
-use Rattle.command.specs.Decision.{answer}
+use Rattle.command.specs.Decision.{if_gives_else_, answer}
 use Rattle.command.specs.Progress.{short}
 use Rattle.command.specs.declared.Decision.{Decision}
 use Rattle.command.specs.declared.Next.the-variants.{Stay, GoIdle}
@@ -94,6 +94,22 @@ module _ (s : Session) (view : View) (m n : ℕ) (h : T ((on Uart s && eqb (s .s
       (f (not-T (on Uart s) (λ u. one-carrier Uart Can s (λ e. omega arith) u o))))
       (λ o. absurd (not-unconnected s m n h o)) q
 
+-- what is decided in a step of the input's own carrier is what the step hears
+module _ (P : Decision → Type 0) (s : Session) (view : View) (k room : ℕ) where
+  pub byte-at : (b : ℕ) → T (on Uart s && eqb (s .step) k) → Holds P (UC.heard (U.stepOf k) (progress s) view b)
+      → Holds P (decide (Byte room b) s view)
+  unfolding decide decideByte connected
+  byte-at b h heard =
+      split P (on Uart s) (λ o. rw (eqb→eq (s .step) k (both-right (on Uart s) (eqb (s .step) k) h)) heard)
+      (λ n. absurd (T-not (on Uart s) n (both-left (on Uart s) (eqb (s .step) k) h)))
+
+  pub frame-at : (l : List ℕ) → T (on Can s && eqb (s .step) k) → Holds P (CC.heard (C.stepOf k) (progress s) view (frameIn l))
+      → Holds P (decide (Framed room l) s view)
+  unfolding decide decideFrame connected
+  frame-at l h heard =
+      split P (on Can s) (λ o. rw (eqb→eq (s .step) k (both-right (on Can s) (eqb (s .step) k) h)) heard)
+      (λ n. absurd (T-not (on Can s) n (both-left (on Can s) (eqb (s .step) k) h)))
+
 -- ---- the step of a sound session
 
 -- of a list that is numbered in its order each element has the number of its place
@@ -130,6 +146,10 @@ module _ (s : Session) (t : T (sound s)) where
   last-taken b l = omega (arith, sound-taken s t, nltb→le (s .taken + 1) (s .expected) l)
 
 -- ---- accepted inputs
+
+-- what is done, by whether a call is accepted and its decision
+abbrev pub doneBy : Bool → Decision → Decision
+doneBy t d = if t gives d else answer Silence Stay
 
 -- an input is a byte or a frame, and no power on
 abbrev pub isCall : Input → Bool

@@ -1,10 +1,10 @@
 -- Every decision is an answer, which changes nothing, or one of the changes that the rules make: what holds of these holds of every decision. What only
 -- one command is answered or does comes only at the end of that command.
-use mathlib.Core.Path.{_≡_, refl, _∙_}
-use mathlib.Core.Bool.{Bool, true, false, not}
+use mathlib.Core.Path.{_≡_, refl, sym, _∙_}
+use mathlib.Core.Bool.{Bool, true, false, not, _&&_}
 use mathlib.Core.List.{List, [], _∷_}
 use Prim.Native.Nat.{ℕ}
-use lib.Dec.{T, eqb, eqb→eq}
+use lib.Dec.{T, eqb, eqb→eq, eqb-refl}
 use lib.ListN.{getD}
 use Rattle.words.specs.Choice.{if_then_else_}
 use Rattle.constants.specs.declared.Address.{Address}
@@ -39,7 +39,7 @@ use Rattle.can.specs.Steps as C
 use Rattle.can.specs.Conversation as CC
 use Rattle.frames.specs.Frames.{Frame, frameIn}
 use Rattle.can.specs.declared.Step as CS
-use Rattle.boot.specs.Session.{on, progress}
+use Rattle.boot.specs.Session.{on, sound, progress}
 use Rattle.boot.specs.Decide.{connected, decideByte, decideFrame}
 use Rattle.boot.specs.Calls.{Input, Power, Byte, Framed, decide}
 use Rattle.carriers.specs.declared.Carrier.{Carrier}
@@ -47,6 +47,7 @@ use Rattle.carriers.specs.declared.Carrier.the-variants.{Uart, Can}
 use Rattle.boot.specs.declared.Session.{Session}
 use Rattle.command.proofs.Holds.{Holds, either, split, judged-either}
 use Rattle.rules.proofs.Unless.{unless-either}
+use Rattle.theorems.proofs.InStep.{uart-step, can-step}
 
 -- a reply that several commands are given
 abbrev pub common : Reply → Bool
@@ -299,3 +300,15 @@ module _ (P : Decision → Type 0) (b : Parts P) where
   decide-made Power s view f = b .told tt
   decide-made (Byte room n) s view f = connected-made _ s _ (λ o. uart-heard _ (progress s) view n (f o))
   decide-made (Framed room l) s view f = connected-made _ s _ (λ o. can-heard _ (progress s) view (frameIn l) (f o))
+
+-- ---- where a command ends, of a sound session
+
+module _ (s : Session) (t : T (sound s)) where
+  -- on UART its step
+  pub last-step : (b k : ℕ) → T (on Uart s) → Last (U.stepOf (s .step)) (progress s) b k → s .step ≡ k
+  last-step b k o l = sym (uart-step s t o) ∙ l .step
+
+  -- on CAN it is idle
+  pub under-idle : (l : List ℕ) (n : ℕ) → T (on Can s) → Under (C.stepOf (s .step)) (frameIn l) n
+      → T (on Can s && eqb (s .step) 0 && eqb (frameIn l .id) n)
+  under-idle l n o k = rw (eqb→eq (s .carrier) 2 o, sym (can-step s t o) ∙ k .idle, k .command) (eqb-refl n)

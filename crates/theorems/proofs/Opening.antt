@@ -1,56 +1,46 @@
 -- An obeyed Access Unprotect is exactly 0x92 to an idle session, on UART with its complement behind it: no other step decides a change that unlocks, no
 -- other command does, and this one is never hindered. What a sound session expects says that the complement is the second byte.
 use mathlib.Core.Path.{_≡_, refl, sym, ap, ap₂, _∙_, subst}
-use mathlib.Core.Bool.{Bool, true, false, not, _&&_}
+use mathlib.Core.Bool.{Bool, true, false, _&&_}
 use mathlib.Core.List.{List, [], _∷_}
-use Prim.Native.Nat.{ℕ, zero, suc, _+_, _-_, _<_}
-use native.Mathlib.Nat.{le-of-suc-le-suc, not-suc-le-zero}
+use Prim.Native.Nat.{ℕ, _-_, _<_}
 use native.Mathlib.Omega.{arith}
-use lib.Dec.{T, T-not, eqb, leb, ltb, eqb→eq, ltb→lt, nltb→le, lit<}
-use lib.ListN.{length, getD, take, drop}
+use lib.Dec.{T, T-not, eqb, eqb→eq, lit<}
+use lib.ListN.{length, getD, take}
 use Rattle.words.specs.Choice.{if_then_else_}
 use Rattle.words.specs.Bytes.{complement}
-use Rattle.words.specs.Lists.{all}
 use Rattle.words.specs.Over.{newer, put}
 use Rattle.words.proofs.Over.{length-over, over-within, over-before}
 use Rattle.words.proofs.Tests.{both-left, both-right}
 use Rattle.board.specs.declared.View.{View}
-use Rattle.memories.specs.Memories.{proper}
-use Rattle.command.specs.Commands.{code, uartCommands, canCommands, lookUp}
-use Rattle.command.specs.Decision.{if_gives_else_, answer}
+use Rattle.command.specs.Commands.{uartCommands, canCommands, lookUp}
+use Rattle.command.specs.Decision.{if_gives_else_}
 use Rattle.command.specs.Progress.{Progress, stagedWith, short, fitting}
-use Rattle.command.specs.declared.Command.{Command}
 use Rattle.command.specs.declared.Command.the-variants.{AccessUnprotect}
 use Rattle.command.specs.declared.Decision.{Decision}
-use Rattle.command.specs.declared.Lookup.{Lookup}
-use Rattle.command.specs.declared.Lookup.the-variants.{Known, Unknown}
+use Rattle.command.specs.declared.Lookup.the-variants.{Known}
 use Rattle.command.specs.declared.Next.{Next}
 use Rattle.command.specs.declared.Next.the-variants.{Stay, Reset, Gather, GoIdle, SetSpeed, Enter, EnterAt, Run}
-use Rattle.command.specs.declared.Reply.the-variants.{Silence}
 use Rattle.rules.specs.Rules.{unlessProtected}
 use Rattle.uart.specs.Steps as U
 use Rattle.uart.specs.Conversation as UC
 use Rattle.uart.specs.declared.Step as US
-use Rattle.can.specs.Steps as C
 use Rattle.can.specs.Conversation as CC
 use Rattle.can.specs.declared.Step as CS
-use Rattle.frames.specs.Frames.{Frame, classic, isFrame, frameIn, carried}
-use Rattle.carriers.specs.Carriers.{stepSound}
+use Rattle.frames.specs.Frames.{Frame, frameIn, carried}
 use Rattle.carriers.specs.declared.Carrier.{Carrier}
-use Rattle.carriers.specs.declared.Carrier.the-variants.{Uart, Can}
+use Rattle.carriers.specs.declared.Carrier.the-variants.{Uart}
 use Rattle.boot.specs.Session.{on, sound, progress, gathered, after}
-use Rattle.boot.specs.Decide.{connected, decideByte, decideFrame}
 use Rattle.boot.specs.Causes.{accepts}
 use Rattle.boot.specs.Calls.{State, powered, Input, Power, Byte, Framed, brings, carrierOf, viewIn, causeFor, decide, perform, refused, call, done, run}
 use Rattle.boot.specs.declared.Session.{Session}
-use Rattle.boot.proofs.Causes.{accepted-clear}
 use Rattle.command.proofs.Holds.{Holds, split}
-use Rattle.theorems.specs.Secrecy.{unlocks, opens, isUnprotect, Exactly, OpensExactly}
-use Rattle.theorems.proofs.InStep.{uart-step, can-step, expects-at, last-taken}
-use Rattle.theorems.proofs.Made.{Parts, Sole, Second, Under, decide-made}
+use Rattle.theorems.specs.Secrecy.{inCan, unlocks, opens, isUnprotect, Exactly, OpensExactly}
+use Rattle.theorems.proofs.InStep.{byte-at, frame-at, expects-at, last-taken, isCall, accepted-sound, doneBy}
+use Rattle.theorems.proofs.Made.{Parts, Sole, Second, decide-made, last-step, under-idle}
 
 -- two tests that hold together are the same
-pub same-test : (a b : Bool) → (T a → T b) → (T b → T a) → a ≡ b
+same-test : (a b : Bool) → (T a → T b) → (T b → T a) → a ≡ b
 same-test true true f g = refl
 same-test true false f g = absurd (f tt)
 same-test false true f g = absurd (g tt)
@@ -153,7 +143,7 @@ module _ (s : Session) (t : T (sound s)) (view : View) where
 
         test : T (on Uart s) → Second (U.stepOf (s .step)) (progress s) b 0x92 → Asked
         test o k =
-            let e : s .step ≡ 0 = sym (uart-step s t o) ∙ k .last .step in
+            let e : s .step ≡ 0 = last-step s t b 0 o (k .last) in
             let w : s .expected ≡ 2 = eqb→eq (s .expected) 2 (expects-at s t 0 o e) in
             let n : s .taken ≡ 1 = omega (arith, last-taken s t b (k .last .long)) in
             let f : getD (s .staged) 0 0 ≡ 0x92 = sym (byte0 s b l n w) ∙ k .command in
@@ -162,7 +152,6 @@ module _ (s : Session) (t : T (sound s)) (view : View) where
             rw (eqb→eq (s .carrier) 1 o, e, n, f, g) tt
 
     byte-opened : T (isUnprotect (Byte room b) s) → T (unlocks (decide (Byte room b) s view .change))
-    unfolding decide decideByte connected
     byte-opened h =
         let (o, i, k, c, d) = five (on Uart s) (eqb (s .step) 0) (eqb (s .taken) 1) (eqb (getD (s .staged) 0 0) 0x92) (eqb b 0x6D) h in
         let e : s .step ≡ 0 = eqb→eq (s .step) 0 i in
@@ -170,54 +159,43 @@ module _ (s : Session) (t : T (sound s)) (view : View) where
         let n : s .taken ≡ 1 = eqb→eq (s .taken) 1 k in
         let f : getD bytes 0 0 ≡ 0x92 = byte0 s b l n w ∙ eqb→eq (getD (s .staged) 0 0) 0x92 c in
         let g : getD bytes 1 0 ≡ 0x6D = byte1 s b l n w ∙ eqb→eq b 0x6D d in
-        split Opens (on Uart s)
-        (λ o. subst (λ (m : ℕ). Holds Opens (UC.heard (U.stepOf m) (progress s) view b)) (sym e)
+        byte-at Opens s view 0 room b (rw (eqb→eq (s .carrier) 1 o, e) tt)
         (byte-unlocks (progress s) view b (record {
           last = record { step = refl; long = rw (n, w) tt };
           complemented = rw (g, f) tt;
           command = f;
-        })))
-        (λ q. absurd (T-not (on Uart s) q o)) .holds
+        })) .holds
 
   module _ (room : ℕ) (frame : List ℕ) where
     frame-opens : T (unlocks (decide (Framed room frame) s view .change)) → T (isUnprotect (Framed room frame) s)
-    frame-opens = decide-made (Only Asked) (parts Asked) (Framed room frame) s view (λ o. sole Asked (test o)) .holds
+    frame-opens = decide-made (Only Asked) (parts Asked) (Framed room frame) s view (λ o. sole Asked (under-idle s t frame 0x92 o)) .holds
       where
         Asked : Type 0
         Asked = T (isUnprotect (Framed room frame) s)
 
-        test : T (on Can s) → Under (C.stepOf (s .step)) (frameIn frame) 0x92 → Asked
-        test o k = rw (eqb→eq (s .carrier) 2 o, sym (can-step s t o) ∙ k .idle, k .command) tt
-
     frame-opened : T (isUnprotect (Framed room frame) s) → T (unlocks (decide (Framed room frame) s view .change))
-    unfolding decide decideFrame connected
     frame-opened h =
-        let k : T (on Can s && eqb (s .step) 0) = both-left (on Can s && eqb (s .step) 0) (eqb (frameIn frame .id) 0x92) h in
-        let c : frameIn frame .id ≡ 0x92 = eqb→eq (frameIn frame .id) 0x92 (both-right (on Can s && eqb (s .step) 0) (eqb (frameIn frame .id) 0x92) h) in
-        let e : s .step ≡ 0 = eqb→eq (s .step) 0 (both-right (on Can s) (eqb (s .step) 0) k) in
-        split Opens (on Can s)
-        (λ o. subst (λ (m : ℕ). Holds Opens (CC.heard (C.stepOf m) (progress s) view (frameIn frame))) (sym e) (frame-unlocks (progress s) view (frameIn frame) c))
-        (λ q. absurd (T-not (on Can s) q (both-left (on Can s) (eqb (s .step) 0) k))) .holds
+        let c : frameIn frame .id ≡ 0x92 = eqb→eq (frameIn frame .id) 0x92 (both-right (inCan CS.Step.Idle s) (eqb (frameIn frame .id) 0x92) h) in
+        frame-at Opens s view 0 room frame (both-left (inCan CS.Step.Idle s) (eqb (frameIn frame .id) 0x92) h)
+        (frame-unlocks (progress s) view (frameIn frame) c) .holds
 
 -- ---- one call
 
 opens-anywhere : (i : Input) (p : State) → length (p .session .staged) ≡ 257 → Exactly i p
-unfolding opens done if_gives_else_ decide causeFor
-opens-anywhere i p l = by-test (accepts (causeFor i p)) refl
+unfolding opens done if_gives_else_ decide
+opens-anywhere i p l = by-test (accepts (causeFor i p)) (λ c t. accepted-sound i p c t)
   where
-    decided : (i : Input) → accepts (causeFor i p) ≡ true → unlocks (decide i (p .session) (viewIn p) .change) ≡ isUnprotect i (p .session)
-    decided Power e = refl
-    decided (Byte room b) e =
-        let t : T (sound (p .session)) = accepted-clear (proper (p .memories)) (leb UC.uartRoom room) true (p .session) e .firm in
-        same-test _ _ (byte-opens (p .session) t (viewIn p) room b l) (byte-opened (p .session) t (viewIn p) room b l)
-    decided (Framed room f) e =
-        let t : T (sound (p .session)) = accepted-clear (proper (p .memories)) (leb CC.canRoom room) (isFrame classic f) (p .session) e .firm in
-        same-test _ _ (frame-opens (p .session) t (viewIn p) room f) (frame-opened (p .session) t (viewIn p) room f)
+    decided : (i : Input) → (T (isCall i) → T (sound (p .session))) → unlocks (decide i (p .session) (viewIn p) .change) ≡ isUnprotect i (p .session)
+    decided Power f = refl
+    decided (Byte room b) f =
+        same-test _ _ (byte-opens (p .session) (f tt) (viewIn p) room b l) (byte-opened (p .session) (f tt) (viewIn p) room b l)
+    decided (Framed room m) f =
+        same-test _ _ (frame-opens (p .session) (f tt) (viewIn p) room m) (frame-opened (p .session) (f tt) (viewIn p) room m)
 
-    by-test : (t : Bool) → accepts (causeFor i p) ≡ t
-        → unlocks ((if t gives decide i (p .session) (viewIn p) else answer Silence Stay) .change) ≡ (t && isUnprotect i (p .session))
-    by-test true e = decided i e
-    by-test false e = refl
+    by-test : (t : Bool) → (T (isCall i) → T t → T (sound (p .session)))
+        → unlocks (doneBy t (decide i (p .session) (viewIn p)) .change) ≡ (t && isUnprotect i (p .session))
+    by-test true f = decided i (λ c. f c tt)
+    by-test false f = refl
 
 -- ---- after a run every session still has its staged bytes
 

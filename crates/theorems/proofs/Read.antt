@@ -1,17 +1,9 @@
 -- The club's failure (c): a locked board reads nothing, since each of its decisions is discreet and the board stays locked and calm.
-use mathlib.Core.Bool.{Bool, true, false}
-use mathlib.Core.List.{List, []}
-use mathlib.Core.Path.{_≡_, refl}
+use mathlib.Core.List.{List}
+use mathlib.Core.Path.{refl}
 use lib.Dec.{T}
-use Rattle.words.specs.Choice.{if_then_else_}
-use Rattle.command.specs.Decision.{if_gives_else_, answer}
-use Rattle.command.specs.Says.{says}
-use Rattle.command.specs.declared.Decision.{Decision}
-use Rattle.command.specs.declared.Next.the-variants.{Stay}
-use Rattle.command.specs.declared.Reply.the-variants.{Silence}
-use Rattle.boot.specs.Causes.{accepts}
-use Rattle.boot.specs.Calls.{Input, Power, Byte, Framed, State, powered, viewIn, causeFor, decide, commandsOf, sent, perform, refused, call, done, run}
-use Rattle.theorems.specs.Failures.{sentWith, NeverRead}
+use Rattle.boot.specs.Calls.{Input, powered, done, run}
+use Rattle.theorems.specs.Failures.{NeverRead}
 use Rattle.theorems.specs.Secrecy.{shut}
 use Rattle.theorems.proofs.Wire.{replied, struck-exactly}
 use Rattle.theorems.proofs.Secrecy.{Twins, twins-fresh, twins-after, shows-nothing, quiet-done}

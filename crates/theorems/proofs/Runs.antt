@@ -3,17 +3,13 @@ use mathlib.Core.Path.{_≡_, refl, sym, ap, ap₂, _∙_, subst}
 use mathlib.Core.Bool.{Bool, true, false, not, _&&_}
 use Prim.Native.Nat.{ℕ}
 use mathlib.Core.List.{List, [], _∷_, _++_}
-use lib.Dec.{T, eqb}
+use lib.Dec.{T}
 use lib.ListN.{length, take, drop}
-use Rattle.words.specs.Choice.{if_then_else_}
 use Rattle.words.proofs.Tests.{both-left, both-right}
 use Rattle.memories.specs.Effects.{effect}
 use Rattle.boot.specs.Session.{fresh, after}
-use Rattle.boot.specs.Causes.{causeNo, accepts}
-use Rattle.boot.specs.Calls.{State, powered, Input, Outcome, viewIn, causeFor, decide, sent, perform, refused, call, run}
+use Rattle.boot.specs.Calls.{State, powered, Outcome, causeFor, decide, sent, perform, call, run}
 use Rattle.boot.specs.Promise.{Left, Leaves, outcome}
-use Rattle.boot.specs.declared.Cause.{Cause}
-use Rattle.boot.specs.declared.Cause.the-variants.{Accepted, WrongMemory, ShortReply, BadFrame, UnsoundSession, BoardRunning}
 use Rattle.boot.specs.declared.Session.{Session}
 use Rattle.command.specs.Says.{says}
 use Rattle.theorems.specs.Secrecy.{opens, isUnprotect, shut, Call, PowerOn, TakeByte, TakeFrame, input, inputs, leftBy, leaves, leavesOf, Seen, seen, seenOf, Alike}

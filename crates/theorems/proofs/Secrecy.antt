@@ -14,11 +14,10 @@ use Rattle.memories.specs.Memories.{Memories, proper}
 use Rattle.memories.specs.Effects.{effect, erasedAll, wiped}
 use Rattle.memories.specs.declared.Change.{Change}
 use Rattle.memories.specs.declared.Change.the-variants.{Nothing, Write, EraseAll, EraseSectors, ProtectOnly, Release, Lock, Unlock}
-use Rattle.command.specs.Decision.{if_gives_else_, answer}
+use Rattle.command.specs.Decision.{if_gives_else_}
 use Rattle.command.specs.Progress.{stagedWith}
 use Rattle.command.specs.Says.{says, fixed}
 use Rattle.command.specs.declared.Decision.{Decision}
-use Rattle.command.specs.declared.Next.the-variants.{Stay}
 use Rattle.command.specs.declared.Reply.{Reply}
 use Rattle.command.specs.declared.Reply.the-variants.{Silence, Ack, AckAck, Nack, AckNack, Commands, Version, DeviceId, Data, Crc}
 use Rattle.frames.specs.Frames.{classic, isFrame}
@@ -32,7 +31,8 @@ use Rattle.boot.specs.declared.Cause.the-variants.{Accepted}
 use Rattle.boot.specs.declared.Session.{Session}
 use Rattle.theorems.specs.Failures.{reads}
 use Rattle.theorems.specs.Secrecy.{unlocks, opens, shut, Call, input, inputs, lent, filled, leftBy, leaves, leavesOf, sums, answered, veiled, Seen, seen, seenOf, Alike, Demand3}
-use Rattle.theorems.proofs.Wire.{doneBy, struck-exactly}
+use Rattle.theorems.proofs.InStep.{doneBy}
+use Rattle.theorems.proofs.Wire.{struck-exactly}
 use Rattle.theorems.proofs.Locked.{calm, harmless, Discreet, decide-discreet, after-calm, gathered-calm}
 
 -- ---- what a discreet act shows of the memories, and does to them

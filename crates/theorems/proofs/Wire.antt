@@ -1,16 +1,15 @@
 -- What a host sees tells what was decided. A CRC value, bytes that are read, and an ACK with a NACK behind it are each the answer to one command alone,
 -- and every other reply is known by its bytes; a Firmware CRC is answered with its value or with a NACK.
-use mathlib.Core.Path.{_≡_, refl, sym, ap, ap₂, _∙_, subst}
-use mathlib.Core.Bool.{Bool, true, false, not, _&&_, _||_, or-comm}
+use mathlib.Core.Path.{_≡_, refl, sym, ap₂, _∙_, subst}
+use mathlib.Core.Bool.{Bool, true, false, not, _&&_, _||_, and-false, or-comm}
 use mathlib.Core.List.{List, [], _∷_}
-use Prim.Native.Nat.{ℕ, _+_}
+use Prim.Native.Nat.{ℕ}
 use native.Mathlib.Omega.{arith}
 use lib.Dec.{T, T-not, eqb, eqb→eq}
 use lib.ListN.{take, drop}
 use Rattle.words.specs.Choice.{if_then_else_}
-use Rattle.words.proofs.Tests.{both-left, both-right, holds-true, fails-false}
+use Rattle.words.proofs.Tests.{both-left, both-right, holds-true}
 use Rattle.constants.specs.declared.Address.{Address}
-use Rattle.board.specs.declared.Region.the-variants.{Flash, Sram, Usd}
 use Rattle.board.specs.declared.View.{View}
 use Rattle.memories.specs.Memories.{Memories}
 use Rattle.command.specs.Commands.{canCommands, lookUp}
@@ -21,21 +20,17 @@ use Rattle.command.specs.declared.Command.the-variants.{FirmwareCrc}
 use Rattle.command.specs.declared.Decision.{Decision}
 use Rattle.command.specs.declared.Lookup.the-variants.{Known}
 use Rattle.command.specs.declared.Next.{Next}
-use Rattle.command.specs.declared.Next.the-variants.{Stay}
 use Rattle.command.specs.declared.Reply.{Reply}
 use Rattle.command.specs.declared.Reply.the-variants.{Silence, Ack, AckAck, Nack, AckNack, Commands, Version, DeviceId, Data, Crc}
 use Rattle.command.specs.declared.Why.{Why}
 use Rattle.rules.specs.Rules.{summing}
-use Rattle.uart.specs.Steps as U
 use Rattle.uart.specs.Conversation as UC
 use Rattle.uart.specs.declared.Step as US
-use Rattle.can.specs.Steps as C
 use Rattle.can.specs.Conversation as CC
 use Rattle.can.specs.declared.Step as CS
 use Rattle.frames.specs.Frames.{Frame, frameIn, carried}
 use Rattle.carriers.specs.declared.Carrier.the-variants.{Uart, Can}
 use Rattle.boot.specs.Session.{on, sound, progress}
-use Rattle.boot.specs.Decide.{connected, decideByte, decideFrame}
 use Rattle.boot.specs.Causes.{causeNo, accepts}
 use Rattle.boot.specs.Calls.{State, Input, Power, Byte, Framed, commandsOf, viewIn, causeFor, decide, sent, perform, refused, call, done}
 use Rattle.boot.specs.declared.Cause.{Cause}
@@ -45,8 +40,8 @@ use Rattle.command.proofs.Holds.{Holds, either, split}
 use Rattle.rules.proofs.Unless.{unless-either}
 use Rattle.theorems.specs.Secrecy.{inUart, inCan, sums, isSum, beginsWithAck, StruckExactly}
 use Rattle.theorems.specs.Failures.{acks, refuses, isFrameOf, isOne, acked, isErase, nacked, inEraseList, inProtect, sentWith, OnTheWire}
-use Rattle.theorems.proofs.InStep.{step-on, uart-step, can-step, expects-at, last-taken, isCall, accepted-sound}
-use Rattle.theorems.proofs.Made.{common, Parts, OnInput, summing-made, decide-made}
+use Rattle.theorems.proofs.InStep.{step-on, byte-at, frame-at, expects-at, last-taken, doneBy, isCall, accepted-sound}
+use Rattle.theorems.proofs.Made.{common, Parts, OnInput, summing-made, decide-made, last-step, under-idle}
 
 -- ---- number and reply
 
@@ -63,10 +58,6 @@ number-accepts i p = by-cause (causeFor i p)
     by-cause BadFrame = refl
     by-cause UnsoundSession = refl
     by-cause BoardRunning = refl
-
--- what is done, by whether a call is accepted and its decision
-abbrev pub doneBy : Bool → Decision → Decision
-doneBy t d = if t gives d else answer Silence Stay
 
 -- a refused call replies nothing, an accepted one what it decided
 pub replied : (i : Input) (p : State) → call i p .reply ≡ sentWith (p .memories) i p
@@ -135,6 +126,7 @@ module _ (i : Input) (s : Session) where
       told : {r : Reply} {n : Next} → T (common r) → Holds MayBe (answer r n)
       told {r} h = record { holds = by-reply r h }
 
+-- what is decided may be given, and so what is done
 decide-may : (i : Input) (s : Session) (view : View) → (T (isCall i) → T (sound s)) → Holds (MayBe i s) (decide i s view)
 decide-may i s view f = decide-made (MayBe i s) (parts i s) i s view (by-input i f)
   where
@@ -142,9 +134,9 @@ decide-may i s view f = decide-made (MayBe i s) (parts i s) i s view (by-input i
     by-input Power f = tt
     by-input (Byte room b) f = λ o. record {
       unlocked = λ k. record { holds = tt };
-      read = λ k r at x. record { holds = rw (eqb→eq (s .carrier) 1 o, sym (uart-step s (f tt) o) ∙ k .step) tt };
+      read = λ k r at x. record { holds = rw (eqb→eq (s .carrier) 1 o, last-step s (f tt) b 5 o k) tt };
       summed = λ k at n.
-          let e : s .step ≡ 13 = sym (uart-step s (f tt) o) ∙ k .step in
+          let e : s .step ≡ 13 = last-step s (f tt) b 13 o k in
           let w : s .expected ≡ 3 = eqb→eq (s .expected) 3 (expects-at s (f tt) 13 o e) in
           let c : s .taken ≡ 2 = omega (arith, last-taken s (f tt) b (k .long)) in
           record { holds = rw (eqb→eq (s .carrier) 1 o, e, c) tt };
@@ -152,9 +144,9 @@ decide-may i s view f = decide-made (MayBe i s) (parts i s) i s view (by-input i
     }
     by-input (Framed room l) f = λ o. record {
       unlocked = λ k. record { holds = tt };
-      read = λ k r at x. record { holds = rw (eqb→eq (s .carrier) 2 o, sym (can-step s (f tt) o) ∙ k .idle, k .command) tt };
-      summed = λ k at n. record { holds = rw (eqb→eq (s .carrier) 2 o, sym (can-step s (f tt) o) ∙ k .idle, k .command) tt };
-      halved = λ k w. record { holds = rw (eqb→eq (s .carrier) 2 o, sym (can-step s (f tt) o) ∙ k .idle, k .command) tt };
+      read = λ k r at x. record { holds = under-idle s (f tt) l 0x11 o k };
+      summed = λ k at n. record { holds = under-idle s (f tt) l 0xAC o k };
+      halved = λ k w. record { holds = under-idle s (f tt) l 0x44 o k };
     }
 
 done-may : (i : Input) (p : State) → T (mayBe i (p .session) (done i p .reply))
@@ -168,6 +160,7 @@ done-may i p = by-test (accepts (causeFor i p)) (λ c t. accepted-sound i p c t)
 
 -- ---- a Firmware CRC is answered with its value or with a NACK
 
+-- a reply is a CRC value or a NACK
 abbrev valueOrNack : Reply → Bool
 valueOrNack Silence = false
 valueOrNack Ack = false
@@ -202,43 +195,29 @@ can-sums : (p : Progress) (view : View) (f : Frame) → f .id ≡ 0xAC → Holds
 unfolding CC.heard CC.decided
 can-sums p view f e = subst (λ (n : ℕ). Holds Sums (CC.commanded view (carried f) (lookUp canCommands n))) (sym e) (can-known view (carried f))
 
+-- its last input is decided so
 decide-sums : (i : Input) (s : Session) (view : View) → T (sound s) → T (isSum i s) → Holds Sums (decide i s view)
-unfolding decide decideByte decideFrame connected
 decide-sums Power s view t h = absurd h
 decide-sums (Byte room b) s view t h =
-    let k : T (on Uart s && eqb (s .step) 13) = both-left (on Uart s && eqb (s .step) 13) (eqb (s .taken) 2) h in
-    let o : T (on Uart s) = both-left (on Uart s) (eqb (s .step) 13) k in
+    let k : T (on Uart s && eqb (s .step) 13) = both-left (inUart US.Step.CrcCount s) (eqb (s .taken) 2) h in
     let e : s .step ≡ 13 = eqb→eq (s .step) 13 (both-right (on Uart s) (eqb (s .step) 13) k) in
-    let w : s .expected ≡ 3 = eqb→eq (s .expected) 3 (expects-at s t 13 o e) in
-    let c : s .taken ≡ 2 = eqb→eq (s .taken) 2 (both-right (on Uart s && eqb (s .step) 13) (eqb (s .taken) 2) h) in
-    split Sums (on Uart s)
-    (λ q. subst (λ (m : ℕ). Holds Sums (UC.heard (U.stepOf m) (progress s) view b)) (sym e) (uart-sums (progress s) view b (rw (c, w) tt)))
-    (λ q. absurd (T-not (on Uart s) q o))
+    let w : s .expected ≡ 3 = eqb→eq (s .expected) 3 (expects-at s t 13 (both-left (on Uart s) (eqb (s .step) 13) k) e) in
+    let c : s .taken ≡ 2 = eqb→eq (s .taken) 2 (both-right (inUart US.Step.CrcCount s) (eqb (s .taken) 2) h) in
+    byte-at Sums s view 13 room b k (uart-sums (progress s) view b (rw (c, w) tt))
 decide-sums (Framed room l) s view t h =
-    let k : T (on Can s && eqb (s .step) 0) = both-left (on Can s && eqb (s .step) 0) (eqb (frameIn l .id) 0xAC) h in
-    let o : T (on Can s) = both-left (on Can s) (eqb (s .step) 0) k in
-    let e : s .step ≡ 0 = eqb→eq (s .step) 0 (both-right (on Can s) (eqb (s .step) 0) k) in
-    let c : frameIn l .id ≡ 0xAC = eqb→eq (frameIn l .id) 0xAC (both-right (on Can s && eqb (s .step) 0) (eqb (frameIn l .id) 0xAC) h) in
-    split Sums (on Can s)
-    (λ q. subst (λ (m : ℕ). Holds Sums (CC.heard (C.stepOf m) (progress s) view (frameIn l))) (sym e) (can-sums (progress s) view (frameIn l) c))
-    (λ q. absurd (T-not (on Can s) q o))
-
--- ---- tests
-
-never : (a b : Bool) → (T a → ⊥) → (a && b) ≡ false
-never true b f = absurd (f tt)
-never false b f = refl
-
-no-second : (a b : Bool) → (T b → ⊥) → (a && b) ≡ false
-no-second true true f = absurd (f tt)
-no-second true false f = refl
-no-second false b f = refl
+    let c : frameIn l .id ≡ 0xAC = eqb→eq (frameIn l .id) 0xAC (both-right (inCan CS.Step.Idle s) (eqb (frameIn l .id) 0xAC) h) in
+    frame-at Sums s view 0 room l (both-left (inCan CS.Step.Idle s) (eqb (frameIn l .id) 0xAC) h) (can-sums (progress s) view (frameIn l) c)
 
 -- ---- by the reply
 
 -- what is sent of a reply
 abbrev saying : Input → Session → Reply → Memories → List ℕ
 saying i s r m = sent i s (says (commandsOf i) r m)
+
+-- a test whose first part fails
+never : (a b : Bool) → (T a → ⊥) → (a && b) ≡ false
+never true b f = absurd (f tt)
+never false b f = refl
 
 -- an ACK at the front of the answer to a Firmware CRC tells that its value follows
 sum-seen : (i : Input) (s : Session) (r : Reply) (m : Memories) → T (mayBe i s r) → (T (isSum i s) → T (valueOrNack r))
@@ -248,8 +227,8 @@ sum-seen i s Silence m h f = never (isSum i s) _ f
 sum-seen i s Ack m h f = never (isSum i s) _ f
 sum-seen i s AckAck m h f = never (isSum i s) _ f
 sum-seen Power s (Nack w) m h f = refl
-sum-seen (Byte room b) s (Nack w) m h f = no-second (isSum (Byte room b) s) false (λ k. k)
-sum-seen (Framed room l) s (Nack w) m h f = no-second (isSum (Framed room l) s) false (λ k. k)
+sum-seen (Byte room b) s (Nack w) m h f = and-false (isSum (Byte room b) s)
+sum-seen (Framed room l) s (Nack w) m h f = and-false (isSum (Framed room l) s)
 sum-seen i s (AckNack w) m h f = never (isSum i s) _ f
 sum-seen i s Commands m h f = never (isSum i s) _ f
 sum-seen i s Version m h f = never (isSum i s) _ f
@@ -278,56 +257,40 @@ lone-nack i s l f =
     by-tests false true false f = refl
     by-tests false false c f = refl
 
-nack-seen : (i : Input) → T (isCall i) → (s : Session) (r : Reply) (m : Memories) → T (mayBe i s r)
-    → nacked i s (saying i s r m) ≡ refuses r
-unfolding says sent
-nack-seen Power c s r m h = absurd c
-nack-seen (Byte room b) c s Silence m h = refl
-nack-seen (Byte room b) c s Ack m h = refl
-nack-seen (Byte room b) c s AckAck m h = refl
-nack-seen (Byte room b) c s (Nack w) m h = refl
-nack-seen (Byte room b) c s (AckNack w) m h = absurd h
-nack-seen (Byte room b) c s Commands m h = refl
-nack-seen (Byte room b) c s Version m h = refl
-nack-seen (Byte room b) c s DeviceId m h = refl
-nack-seen (Byte room b) c s (Data r at x) m h = lone-nack (Byte room b) s (saying (Byte room b) s (Data r at x) m) (λ k. k)
-nack-seen (Byte room b) c s (Crc at n) m h = lone-nack (Byte room b) s (saying (Byte room b) s (Crc at n) m) (λ k. k)
-nack-seen (Framed room l) c s Silence m h = refl
-nack-seen (Framed room l) c s Ack m h = refl
-nack-seen (Framed room l) c s AckAck m h = refl
-nack-seen (Framed room l) c s (Nack w) m h = refl
-nack-seen (Framed room l) c s (AckNack w) m h = holds-true (isErase (Framed room l) s) h
-nack-seen (Framed room l) c s Commands m h = refl
-nack-seen (Framed room l) c s Version m h = refl
-nack-seen (Framed room l) c s DeviceId m h = refl
-nack-seen (Framed room l) c s (Data r at x) m h =
-    lone-nack (Framed room l) s (saying (Framed room l) s (Data r at x) m) (read-no-erase (Framed room l) s h)
-nack-seen (Framed room l) c s (Crc at n) m h = refl
+-- a reply's bytes tell whether it is a NACK, and where nothing is read whether it is one ACK
+record Tells (i : Input) (s : Session) (r : Reply) (l : List ℕ) : Type 0 where
+  nack : nacked i s l ≡ refuses r
+  ack : (T (isRead i s) → ⊥) → acked i l ≡ acks r
 
-ack-seen : (i : Input) → T (isCall i) → (s : Session) (r : Reply) (m : Memories) → T (mayBe i s r) → (T (isRead i s) → ⊥)
-    → acked i (saying i s r m) ≡ acks r
+reply-seen : (i : Input) → T (isCall i) → (s : Session) (r : Reply) (m : Memories) → T (mayBe i s r) → Tells i s r (saying i s r m)
 unfolding says sent
-ack-seen Power c s r m h f = absurd c
-ack-seen (Byte room b) c s Silence m h f = refl
-ack-seen (Byte room b) c s Ack m h f = refl
-ack-seen (Byte room b) c s AckAck m h f = refl
-ack-seen (Byte room b) c s (Nack w) m h f = refl
-ack-seen (Byte room b) c s (AckNack w) m h f = refl
-ack-seen (Byte room b) c s Commands m h f = refl
-ack-seen (Byte room b) c s Version m h f = refl
-ack-seen (Byte room b) c s DeviceId m h f = refl
-ack-seen (Byte room b) c s (Data r at x) m h f = absurd (f h)
-ack-seen (Byte room b) c s (Crc at n) m h f = refl
-ack-seen (Framed room l) c s Silence m h f = refl
-ack-seen (Framed room l) c s Ack m h f = refl
-ack-seen (Framed room l) c s AckAck m h f = refl
-ack-seen (Framed room l) c s (Nack w) m h f = refl
-ack-seen (Framed room l) c s (AckNack w) m h f = refl
-ack-seen (Framed room l) c s Commands m h f = refl
-ack-seen (Framed room l) c s Version m h f = refl
-ack-seen (Framed room l) c s DeviceId m h f = refl
-ack-seen (Framed room l) c s (Data r at x) m h f = absurd (f h)
-ack-seen (Framed room l) c s (Crc at n) m h f = refl
+reply-seen Power c s r m h = absurd c
+reply-seen (Byte room b) c s Silence m h = record { nack = refl; ack = λ f. refl }
+reply-seen (Byte room b) c s Ack m h = record { nack = refl; ack = λ f. refl }
+reply-seen (Byte room b) c s AckAck m h = record { nack = refl; ack = λ f. refl }
+reply-seen (Byte room b) c s (Nack w) m h = record { nack = refl; ack = λ f. refl }
+reply-seen (Byte room b) c s (AckNack w) m h = absurd h
+reply-seen (Byte room b) c s Commands m h = record { nack = refl; ack = λ f. refl }
+reply-seen (Byte room b) c s Version m h = record { nack = refl; ack = λ f. refl }
+reply-seen (Byte room b) c s DeviceId m h = record { nack = refl; ack = λ f. refl }
+reply-seen (Byte room b) c s (Data r at x) m h = record {
+  nack = lone-nack (Byte room b) s (saying (Byte room b) s (Data r at x) m) (λ k. k);
+  ack = λ f. absurd (f h);
+}
+reply-seen (Byte room b) c s (Crc at n) m h = record { nack = lone-nack (Byte room b) s (saying (Byte room b) s (Crc at n) m) (λ k. k); ack = λ f. refl }
+reply-seen (Framed room l) c s Silence m h = record { nack = refl; ack = λ f. refl }
+reply-seen (Framed room l) c s Ack m h = record { nack = refl; ack = λ f. refl }
+reply-seen (Framed room l) c s AckAck m h = record { nack = refl; ack = λ f. refl }
+reply-seen (Framed room l) c s (Nack w) m h = record { nack = refl; ack = λ f. refl }
+reply-seen (Framed room l) c s (AckNack w) m h = record { nack = holds-true (isErase (Framed room l) s) h; ack = λ f. refl }
+reply-seen (Framed room l) c s Commands m h = record { nack = refl; ack = λ f. refl }
+reply-seen (Framed room l) c s Version m h = record { nack = refl; ack = λ f. refl }
+reply-seen (Framed room l) c s DeviceId m h = record { nack = refl; ack = λ f. refl }
+reply-seen (Framed room l) c s (Data r at x) m h = record {
+  nack = lone-nack (Framed room l) s (saying (Framed room l) s (Data r at x) m) (read-no-erase (Framed room l) s h);
+  ack = λ f. absurd (f h);
+}
+reply-seen (Framed room l) c s (Crc at n) m h = record { nack = refl; ack = λ f. refl }
 
 -- a session inside a list is in no read
 not-read : (i : Input) (s : Session) (m n : ℕ) → (m ≡ 5 → ⊥) → (n ≡ 0 → ⊥)
@@ -374,27 +337,18 @@ struck-exactly i p =
         (λ k. decide-sums i (p .session) (viewIn p) (f (call-sums i k) tt) k .holds)
     by-test false f h = refl
 
-module _ (p : State) where
-  call-nacked : (i : Input) → T (isCall i) → nacked i (p .session) (call i p .reply) ≡ refuses (done i p .reply)
-  call-nacked i c = ap (nacked i (p .session)) (replied i p) ∙ nack-seen i c (p .session) (done i p .reply) (p .memories) (done-may i p)
+-- a call's reply tells what was done
+by-reply : (i : Input) → T (isCall i) → (p : State) → Tells i (p .session) (done i p .reply) (call i p .reply)
+by-reply i c p = rw (replied i p) (reply-seen i c (p .session) (done i p .reply) (p .memories) (done-may i p))
 
-  any-nacked : (i : Input) → nacked i (p .session) (call i p .reply) ≡ refuses (done i p .reply)
-  unfolding call done causeFor decide perform if_gives_else_ sent
-  any-nacked Power = refl
-  any-nacked (Byte room b) = call-nacked (Byte room b) tt
-  any-nacked (Framed room l) = call-nacked (Framed room l) tt
-
-  module _ (h : T (inEraseList (p .session) || inProtect (p .session))) where
-    call-acked : (i : Input) → T (isCall i) → acked i (call i p .reply) ≡ acks (done i p .reply)
-    call-acked i c =
-        ap (acked i) (replied i p)
-        ∙ ack-seen i c (p .session) (done i p .reply) (p .memories) (done-may i p) (list-not-read i (p .session) h)
-
-    any-acked : (i : Input) → acked i (call i p .reply) ≡ acks (done i p .reply)
-    unfolding done causeFor decide if_gives_else_
-    any-acked Power = refl
-    any-acked (Byte room b) = call-acked (Byte room b) tt
-    any-acked (Framed room l) = call-acked (Framed room l) tt
+call-seen : (i : Input) (p : State) → Tells i (p .session) (done i p .reply) (call i p .reply)
+unfolding done causeFor decide call perform sent says if_gives_else_
+call-seen Power p = record { nack = refl; ack = λ f. refl }
+call-seen (Byte room b) p = by-reply (Byte room b) tt p
+call-seen (Framed room l) p = by-reply (Framed room l) tt p
 
 pub on-the-wire : OnTheWire
-on-the-wire = record { refusal = λ i p. any-nacked p i; acceptance = λ i p h. any-acked p h i }
+on-the-wire = record {
+  refusal = λ i p. call-seen i p .nack;
+  acceptance = λ i p h. call-seen i p .ack (list-not-read i (p .session) h);
+}

@@ -217,9 +217,9 @@ refuses DeviceId = false
 refuses (Data r at x) = false
 refuses (Crc at n) = false
 
--- so the two tests on a reply above tell what was decided
+-- an ACK and a NACK, as a host sees them, tell what was decided
 pub record OnTheWire : Type 0 where
-  -- any NACK, in any state
+  -- a NACK to any input, on any board
   pub refusal : (i : Input) (p : State) → nacked i (p .session) (call i p .reply) ≡ refuses (done i p .reply)
-  -- an ACK to a list of sectors
+  -- an ACK to an input while a list of sectors is gathered
   pub acceptance : (i : Input) (p : State) → T (inEraseList (p .session) || inProtect (p .session)) → acked i (call i p .reply) ≡ acks (done i p .reply)

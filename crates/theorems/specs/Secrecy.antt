@@ -100,14 +100,15 @@ beginsWithAck Power reply = false
 beginsWithAck (Byte room b) reply = eqb (getD reply 0 0) 0x79
 beginsWithAck (Framed room l) reply = eqb (getD (frameIn reply .bytes) 0 0) 0x79
 
--- a Firmware CRC is answered, as a host sees it: by an input, the session given, the number and the reply
+-- a Firmware CRC is answered, as a host sees it: the number is 0, the input is the last of one to the session given, and the reply begins with ACK
 abbrev pub answered : Input → Session → ℕ → List ℕ → Bool
 answered i s number reply = eqb number 0 && isSum i s && beginsWithAck i reply
 
+-- a call on a board has answered one
 abbrev pub struck : Input → State → Bool
 struck i p = answered i (p .session) (causeNo (call i p .cause)) (call i p .reply)
 
--- a CRC value is sent exactly there, in any state
+-- a CRC value is sent exactly there, on any board
 abbrev pub StruckExactly : Type 0
 StruckExactly = (i : Input) (p : State) → struck i p ≡ sums (done i p .reply)
 
