@@ -19,7 +19,7 @@ use Rattle.board.specs.declared.Place.the-variants.{In, Nowhere}
 use Rattle.board.specs.declared.Region.the-variants.{Flash, Sram, Usd}
 use Rattle.board.specs.declared.View.{View}
 use Rattle.constants.specs.declared.Address.{Address}
-use Rattle.memories.specs.Memories.{Memories, proper}
+use Rattle.memories.specs.Memories.{Memories}
 use Rattle.command.specs.Decision.{answer, nack}
 use Rattle.command.specs.Says.{says}
 use Rattle.command.specs.Progress.{stagedWith, short}
@@ -44,7 +44,6 @@ use Rattle.boot.specs.Session.{on, sound, entered, progress, gathered, after}
 use Rattle.boot.specs.Decide.{connected, decideByte}
 use Rattle.boot.specs.Causes.{accepts}
 use Rattle.boot.specs.Calls.{State, Outcome, Byte, viewIn, causeFor, decide, sent, perform, refused, call, run}
-use Rattle.boot.proofs.Causes.{accepted-clear}
 use Rattle.boot.proofs.Sound.{sound-taken, uart-expects}
 use Rattle.carriers.specs.declared.Carrier.the-variants.{Uart}
 use Rattle.boot.specs.declared.Session.{Session}
@@ -59,6 +58,7 @@ use Rattle.boot.specs.Decide as BD
 use Rattle.boot.specs.Causes as BC
 use Rattle.boot.specs.Calls as BK
 use Rattle.theorems.specs.Talk.{freshBoard}
+use Rattle.theorems.proofs.InStep.{expects-at, accepted-sound}
 use Rattle.theorems.specs.Longest.{longestWrite, behind, bytesLeft, between, isOver, isByte, sessionAfter, goesOn, NoLongerCommand}
 
 -- ---- what a decision may do at the end of a step
@@ -331,11 +331,6 @@ Brings s r =
     (T (isOver (r .state .session)) × (0 < length (r .reply)))
     ⊎ (T (not (isOver (r .state .session))) × (0 < bytesLeft (r .state .session)) × (bytesLeft (r .state .session) < bytesLeft s))
 
--- an accepted byte finds a sound session
-accepted-sound : (room b : ℕ) (p : State) → T (accepts (causeFor (Byte room b) p)) → T (sound (p .session))
-unfolding causeFor
-accepted-sound room b p t = accepted-clear (proper (p .memories)) (leb UC.uartRoom room) true (p .session) (holds-true _ t) .firm
-
 call-brings : (room b : ℕ) (p : State) → T (isByte b) → T (accepts (causeFor (Byte room b) p)) → T (on Uart (p .session))
     → Brings (p .session) (call (Byte room b) p)
 unfolding call perform decide
@@ -345,7 +340,7 @@ call-brings room b p small t o = by-test (accepts (causeFor (Byte room b) p)) t
         → Brings (p .session) (if c then perform (Byte room b) p (decide (Byte room b) (p .session) (viewIn p)) else refused (causeFor (Byte room b) p) p)
     by-test true k =
         ⊎-elim (λ (v, w). inl (v, some-bytes room b (p .session) _ (p .memories) w)) inr
-        (byte-makes (p .session) (accepted-sound room b p t) o (viewIn p) b (ltb→lt b 256 small) .holds)
+        (byte-makes (p .session) (accepted-sound (Byte room b) p tt t) o (viewIn p) b (ltb→lt b 256 small) .holds)
     by-test false k = absurd k
 
 -- ---- all bytes of a command
@@ -383,7 +378,7 @@ few room (b ∷ bs) p w h =
     let o : T (on Uart s) = both-left (on Uart s) (eqb (s .step) 0) u in
     let e : s .step ≡ 0 = eqb→eq (s .step) 0 (both-right (on Uart s) (eqb (s .step) 0) u) in
     let z : s .taken ≡ 0 = eqb→eq (s .taken) 0 (both-right (on Uart s && eqb (s .step) 0) (eqb (s .taken) 0) w) in
-    let x : s .expected ≡ 2 = eqb→eq (s .expected) 2 (subst (λ (n : ℕ). T (expects (stepOf n) (s .expected))) e (uart-expects s (accepted-sound room b p t) o)) in
+    let x : s .expected ≡ 2 = eqb→eq (s .expected) 2 (expects-at s (accepted-sound (Byte room b) p tt t) 0 o e) in
     let l : bytesLeft s ≡ 265 = ap₂ (λ (m n : ℕ). m - n + behind (stepOf (s .step))) x z ∙ ap (λ (n : ℕ). 2 - 0 + behind (stepOf n)) e in
     let k = few-from room (b ∷ bs) p o (omega arith) h in
     omega arith
