@@ -6,6 +6,7 @@ use lib.ListN.{length, getD}
 use lib.Dec.{leb}
 use lib.Bits.{bitXor}
 use Rattle.words.specs.Choice.{if_then_else_}
+use Rattle.words.specs.Hex.{hex}
 
 -- the polynomial, and the register at the start
 abbrev pub polynomial : ℕ
@@ -35,6 +36,10 @@ crcFrom c (b ∷ bs) = crcFrom (fed c b) bs
 -- the checksum of a list of bytes
 abbrev pub crc : List ℕ → ℕ
 crc bs = crcFrom start bs
+
+-- the public check value, over ASCII "123456789"
+abbrev pub CheckValue : Type 0
+CheckValue = crc (hex "31 32 33 34 35 36 37 38 39") ≡ 0x0376E6E7
 
 -- a table of bytes: what n moves make of a register that has one of them at its high end, and nothing else
 abbrev pub tableSize : ℕ

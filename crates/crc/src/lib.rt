@@ -1,3 +1,5 @@
+pub mod held;
+
 ghost use mathlib.Core.Path.{_≡_};
 ghost use Prim.Native.Nat.{ℕ, _+_, _*_, _^_};
 ghost use lib.Bits.{bitXor};
