@@ -3,3 +3,4 @@ pub mod Quantities
 pub mod Regions
 pub mod Usd
 pub mod View
+pub mod Rulings

@@ -1,3 +1,4 @@
+pub mod held;
 pub mod quantities;
 pub mod range;
 pub mod usd;
