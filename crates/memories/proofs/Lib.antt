@@ -1,5 +1,5 @@
 pub mod Memories
+mod Becomes
 pub mod Written
-pub mod Erased
+mod Erased
 pub mod Protected
-pub mod Wiped

@@ -9,20 +9,21 @@ use native.Mathlib.Omega.{arith}
 use lib.Dec.{T, T-not, eqb, eqb→eq, ltb→lt}
 use lib.ListN.{length, getD, set, replicate, length-set, getD-replicate}
 use lib.Seq.{getD-set-same, getD-set-other}
-use lib.Bits.{bitAnd, and-shr, and-mod, and-mask, and-zero-r}
+use lib.Bits.{bitAnd, and-shr, and-mod, and-mask, and-zero-r, and-le-l}
 use borrow.Author.Tests.{eq-eqb, ne-eqb, eqb-true, eqb-false, le-leb, lt-ltb}
 use Rattle.words.specs.Bytes.{bit}
 use Rattle.words.specs.Choice.{if_then_else_}
 use Rattle.words.specs.Lists.{all}
 use Rattle.words.specs.Over.{newer, within}
 use Rattle.words.proofs.Over.{length-over, over-within, over-at}
-use Rattle.words.proofs.Tests.{both-left, both-right, fails-false}
+use Rattle.words.proofs.Tests.{both-left, both-right, holds-true, fails-false}
 use Rattle.board.specs.Quantities.{isSector, named}
 use Rattle.board.specs.Usd.{besideBits, bitByte}
 use Rattle.board.specs.View.{viewOf, writeProtected}
 use Rattle.board.specs.declared.Sector.{Sector}
 use Rattle.board.proofs.Bits.{by-its-bit}
 use Rattle.memories.specs.Protection.{released, alsoProtected, allProtected, onlyProtected}
+use Rattle.memories.proofs.Becomes.{filled}
 
 -- ---- bits, by a table of 64 cases that is computed
 
@@ -160,3 +161,39 @@ pub only-beside : (u : List ℕ) (ks : List Sector) (i : ℕ) → i < length u �
     → getD (onlyProtected u ks) i 0 ≡ getD u i 0
 unfolding onlyProtected
 only-beside u ks i h s t = all-beside (released u) ks i s t ∙ released-beside u i h t
+
+-- ---- the bytes that hold the bits
+
+length-all : (u : List ℕ) (ks : List Sector) → length (allProtected u ks) ≡ length u
+length-all u [] = refl
+length-all u (k ∷ ks) = length-all (alsoProtected u k) ks ∙ length-also u k
+
+pub length-only : (u : List ℕ) (ks : List Sector) → length (onlyProtected u ks) ≡ length u
+unfolding onlyProtected
+length-only u ks = length-all (released u) ks ∙ length-released u
+
+-- a byte joined with a mask stays one
+also-small : (u : List ℕ) (k : Sector) (i : ℕ) → i < length u → getD u i 0 < 256 → getD (alsoProtected u k) i 0 < 256
+unfolding alsoProtected
+also-small u k i h s = by-place (eqb i (bitByte k)) refl
+  where
+    v : ℕ
+    v = bitAnd (getD u (bitByte k) 0) (255 - 2 ^ (k .0 % 8))
+
+    by-place : (t : Bool) → eqb i (bitByte k) ≡ t → getD (set u (bitByte k) v) i 0 < 256
+    by-place false e = rw (getD-set-other u (bitByte k) i v 0 (eqb-false i (bitByte k) e)) s
+    by-place true e =
+        let q = eqb-true i (bitByte k) e in
+        let l = and-le-l (getD u i 0) (255 - 2 ^ (k .0 % 8)) in
+        rw (← q, getD-set-same) (omega arith)
+
+all-small : (u : List ℕ) (ks : List Sector) (i : ℕ) → i < length u → getD u i 0 < 256 → getD (allProtected u ks) i 0 < 256
+all-small u [] i h s = s
+all-small u (k ∷ ks) i h s = all-small (alsoProtected u k) ks i (rw length-also h) (also-small u k i h s)
+
+-- after 0x63 each byte that holds bits is a byte
+pub only-small : (u : List ℕ) (ks : List Sector) (i : ℕ) → i < length u → T (within 8 4 i) → getD (onlyProtected u ks) i 0 < 256
+unfolding onlyProtected released
+only-small u ks i h t =
+    let e : getD (released u) i 0 ≡ 255 = filled u 8 4 255 .byte i h ∙ rw (holds-true (within 8 4 i) t) in
+    all-small (released u) ks i (rw length-released h) (omega arith)

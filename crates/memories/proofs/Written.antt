@@ -1,5 +1,5 @@
--- Write, byte by byte: what is laid over a region, and that the other regions stay.
-use mathlib.Core.Path.{_≡_, refl}
+-- Write, byte by byte: what is laid over a region.
+use mathlib.Core.Path.{_≡_}
 use mathlib.Core.List.{List}
 use Prim.Native.Nat.{ℕ, _-_, _<_}
 use lib.ListN.{length, getD}
@@ -11,12 +11,7 @@ use Rattle.board.specs.declared.Region.{Region}
 use Rattle.board.specs.declared.Region.the-variants.{Flash, Sram, Usd}
 use Rattle.memories.specs.Memories.{Memories, bytesOf}
 use Rattle.memories.specs.Effects.{written}
-
--- how a region joins an old byte and a new one
-abbrev pub joined : Region → ℕ → ℕ → ℕ
-joined Flash = bitAnd
-joined Sram = newer
-joined Usd = newer
+use Rattle.memories.specs.Meaning.{joined}
 
 -- each byte of the region that is written
 pub written-at : (r : Region) (at : ℕ) (new : List ℕ) (m : Memories) (i : ℕ) → i < length (bytesOf r m)
@@ -26,15 +21,3 @@ unfolding written
 written-at Flash at new m i h = over-at bitAnd (m .flash) at new i h
 written-at Sram at new m i h = over-at newer (m .sram) at new i h
 written-at Usd at new m i h = over-at newer (m .usd) at new i h
-
--- the regions beside it stay
-pub record Beside (r : Region) (m n : Memories) : Type 0 where
-  pub flash : (r ≡ Flash → ⊥) → n .flash ≡ m .flash
-  pub sram : (r ≡ Sram → ⊥) → n .sram ≡ m .sram
-  pub usd : (r ≡ Usd → ⊥) → n .usd ≡ m .usd
-
-pub written-beside : (r : Region) (at : ℕ) (new : List ℕ) (m : Memories) → Beside r m (written r at new m)
-unfolding written
-written-beside Flash at new m = record { flash = λ no. absurd (no refl); sram = λ no. refl; usd = λ no. refl }
-written-beside Sram at new m = record { flash = λ no. refl; sram = λ no. absurd (no refl); usd = λ no. refl }
-written-beside Usd at new m = record { flash = λ no. refl; sram = λ no. refl; usd = λ no. absurd (no refl) }

@@ -2,3 +2,4 @@ pub mod Memories
 pub mod Lent
 pub mod Protection
 pub mod Effects
+pub mod Meaning

@@ -1,3 +1,5 @@
+pub mod held;
+
 ghost use mathlib.Core.Path.{_≡_};
 ghost use Rattle.memories.specs.Effects.{noBytes};
 use board::Region;
