@@ -1,4 +1,3 @@
-pub mod Numbers
 pub mod Progress
 pub mod Holds
 pub mod Says

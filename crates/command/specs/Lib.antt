@@ -3,3 +3,4 @@ pub mod Why
 pub mod Decision
 pub mod Progress
 pub mod Says
+pub mod Numbers

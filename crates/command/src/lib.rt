@@ -1,4 +1,5 @@
 pub mod code;
+pub mod held;
 pub mod protected;
 
 ghost use mathlib.Core.Path.{_≡_};

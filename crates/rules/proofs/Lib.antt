@@ -1,3 +1,2 @@
 pub mod Unless
 pub mod Good
-pub mod Rulings

@@ -1,3 +1,5 @@
+pub mod held;
+
 use board::LessOne;
 
 // What the two selector bytes of an erase ask for.

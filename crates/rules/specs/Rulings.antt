@@ -1,23 +1,21 @@
--- Rulings that document 01's worked talk and its rules give, by computing.
-use mathlib.Core.Path.{_≡_, refl}
+-- Rulings that document 01's worked talk and its rules give, in two columns: what the definitions decide, and what the paper does.
+use mathlib.Core.Path.{_≡_}
 use mathlib.Core.List.{List, [], _∷_, map}
-use Prim.Native.Nat.{ℕ}
 use lib.ListN.{replicate, set}
 use Rattle.words.specs.Hex.{hex}
 use Rattle.board.specs.Board.{address}
-use Rattle.board.specs.Regions.{placeOf}
-use Rattle.board.specs.View.{viewOf, writeProtected}
+use Rattle.board.specs.View.{viewOf}
 use Rattle.board.specs.declared.Region.the-variants.{Flash, Sram, Usd}
 use Rattle.board.specs.declared.View.{View}
 use Rattle.memories.specs.Memories.{freshUsd}
 use Rattle.memories.specs.declared.Change.the-variants.{Write, EraseAll, EraseSectors, ProtectOnly}
-use Rattle.command.specs.Decision.{if_gives_else_, answer, alter, nack, judged}
+use Rattle.command.specs.Decision.{answer, alter, nack, judged}
 use Rattle.command.specs.declared.Command.the-variants.{ReadMemory, FirmwareCrc}
 use Rattle.command.specs.declared.Decision.{Decision}
 use Rattle.command.specs.declared.Next.the-variants.{Reset, GoIdle, Run}
 use Rattle.command.specs.declared.Reply.the-variants.{Ack, Data, Crc}
 use Rattle.command.specs.declared.Why.the-variants.{AccessProtected, BadAddress, BadRange, BadSector, WriteProtected, UnsupportedErase}
-use Rattle.rules.specs.Rules.{unlessProtected, readAt, reading, writeVerdictAt, writeVerdict, writeAt, writing, eraseVerdict, erasing, eraseAllVerdict, protectVerdict, protecting, resetting, jumping, sumAt, summing}
+use Rattle.rules.specs.Rules.{unlessProtected, reading, writing, erasing, eraseAllVerdict, protecting, resetting, jumping, summing}
 
 -- what is looked at of a fresh board, of one with sector 1 write-protected, and of one with protection on
 abbrev pub fresh : View
@@ -45,7 +43,12 @@ decisions rs = map (λ (r : Ruling). r .decided) rs
 abbrev pub papers : List Ruling → List Decision
 papers rs = map (λ (r : Ruling). r .paper) rs
 
-abbrev rulings : List Ruling
+-- each decision is the paper's
+abbrev pub Ruled : List Ruling → Type 0
+Ruled rs = decisions rs ≡ papers rs
+
+-- rulings that the worked talk and the rules give
+abbrev pub rulings : List Ruling
 rulings =
     (unlessProtected locked ReadMemory resetting is nack AccessProtected)
     ∷ (unlessProtected locked FirmwareCrc resetting is resetting)
@@ -77,7 +80,3 @@ rulings =
     ∷ (summing (address 0x08007C00) 2 is nack BadRange)
     ∷ (summing (address 0x08007C01) 1 is nack BadAddress)
     ∷ []
-
-pub ruled : decisions rulings ≡ papers rulings
-unfolding placeOf viewOf writeProtected if_gives_else_ judged unlessProtected readAt reading writeVerdictAt writeVerdict writeAt writing eraseVerdict erasing eraseAllVerdict protectVerdict protecting jumping sumAt summing
-ruled = refl
