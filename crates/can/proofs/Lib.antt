@@ -1,4 +1,3 @@
 pub mod Steps
 pub mod Carried
 pub mod Good
-pub mod Rulings

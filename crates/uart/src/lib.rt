@@ -1,3 +1,5 @@
+pub mod held;
+
 ghost use mathlib.Core.Path.{_≡_};
 ghost use lib.Dec.{leb};
 ghost use Rattle.uart.specs.Steps.{stepNo, stepOf, expects};

@@ -1,36 +1,30 @@
--- Rulings of the UART conversation that document 01 gives, by computing.
-use mathlib.Core.Path.{_≡_, refl}
+-- Rulings of the UART conversation that document 01 gives.
+use mathlib.Core.Path.{_≡_}
 use mathlib.Core.List.{List, [], _∷_}
 use Prim.Native.Nat.{ℕ, _-_}
 use lib.ListN.{length, getD}
 use Rattle.words.specs.Hex.{hex}
-use Rattle.board.specs.Regions.{placeOf}
-use Rattle.board.specs.View.{viewOf, writeProtected}
 use Rattle.board.specs.declared.Region.the-variants.{Flash}
 use Rattle.board.specs.declared.View.{View}
 use Rattle.memories.specs.declared.Change.the-variants.{Write, EraseAll, EraseSectors, ProtectOnly, Lock, Unlock}
-use Rattle.command.specs.Decision.{if_gives_else_, answer, alter, nack, judged}
+use Rattle.command.specs.Decision.{answer, alter, nack}
 use Rattle.command.specs.declared.Decision.{Decision}
 use Rattle.command.specs.declared.Next.the-variants.{Reset, GoIdle, Enter, EnterAt, Run}
 use Rattle.command.specs.declared.Reply.the-variants.{Silence, Ack, AckAck, Data, Crc}
 use Rattle.command.specs.declared.Why.the-variants.{BadComplement, UnknownCommand, AccessProtected, BadChecksum, BadAddress, BadRange, UnsupportedErase}
-use Rattle.rules.specs.Rules as Q
-use Rattle.rules.proofs.Rulings.{Ruling, _is_, decisions, papers, fresh, locked}
-use Rattle.uart.specs.Conversation as C
+use Rattle.rules.specs.Rulings.{Ruling, _is_, Ruled, fresh, locked}
+use Rattle.uart.specs.Conversation.{commandBytes, heard}
 use Rattle.uart.specs.Steps.{stepNo}
 use Rattle.uart.specs.declared.Step.{Step}
 use Rattle.uart.specs.declared.Step.the-variants.{Idle, ReadAddress, JumpAddress, CrcAddress, ReadLength, WriteLength, WriteData, EraseSelector, SpecialCheck, EraseList, ProtectList, CrcCount}
 
--- n, version and list, as 00 FF is answered
-pub commands-told : C.commandBytes ≡ hex "0E 20 00 01 02 11 21 31 44 63 73 82 92 AC D4"
-commands-told = refl
-
 -- the last byte of a step comes in: the bytes before it, the address, the view
-abbrev last : Step → List ℕ → ℕ → View → Decision
+abbrev pub last : Step → List ℕ → ℕ → View → Decision
 last s bytes a view =
-    C.heard s (record { taken = length bytes - 1; expected = length bytes; address = a; staged = bytes }) view (getD bytes (length bytes - 1) 0)
+    heard s (record { taken = length bytes - 1; expected = length bytes; address = a; staged = bytes }) view (getD bytes (length bytes - 1) 0)
 
-abbrev rulings : List Ruling
+-- the last bytes of each step, as the worked talk and the rules have them
+abbrev pub rulings : List Ruling
 rulings =
     (last Idle (hex "01 FF") 0 fresh is nack BadComplement)
     ∷ (last Idle (hex "03 FC") 0 fresh is nack UnknownCommand)
@@ -60,6 +54,9 @@ rulings =
     ∷ (last CrcCount (hex "00 01 FE") 0x08007C00 fresh is nack BadRange)
     ∷ []
 
-pub ruled : decisions rulings ≡ papers rulings
-unfolding placeOf viewOf writeProtected if_gives_else_ judged Q.unlessProtected Q.readAt Q.reading Q.writeVerdictAt Q.writeVerdict Q.writeAt Q.writing Q.selectorOf Q.eraseVerdict Q.erasing Q.eraseAllVerdict Q.protectVerdict Q.protecting Q.jumping Q.sumAt Q.summing C.obeyed C.commanded C.addressed C.keptIf C.selected C.complete C.heard
-ruled = refl
+-- what is heard, and what is told
+pub record Rulings : Type 0 where
+  -- each last byte is decided as the paper decides it
+  pub ruled : Ruled rulings
+  -- n, version and list, as 00 FF is answered
+  pub commandsTold : commandBytes ≡ hex "0E 20 00 01 02 11 21 31 44 63 73 82 92 AC D4"

@@ -1,46 +1,35 @@
--- Rulings of the CAN conversation that document 01 gives, by computing.
-use mathlib.Core.Path.{_≡_, refl}
+-- Rulings of the CAN conversation that document 01 gives.
+use mathlib.Core.Path.{_≡_}
 use mathlib.Core.List.{List, [], _∷_}
 use Prim.Native.Nat.{ℕ}
 use Prim.Native.String.{String}
 use lib.ListN.{replicate}
 use Rattle.words.specs.Hex.{hex}
-use Rattle.board.specs.Regions.{placeOf}
-use Rattle.board.specs.View.{viewOf, writeProtected}
 use Rattle.board.specs.declared.Region.the-variants.{Flash}
 use Rattle.board.specs.declared.View.{View}
 use Rattle.memories.specs.declared.Change.the-variants.{Write, EraseAll, EraseSectors, ProtectOnly}
-use Rattle.command.specs.Decision.{if_gives_else_, answer, alter, nack, judged}
+use Rattle.command.specs.Decision.{answer, alter, nack}
 use Rattle.command.specs.declared.Decision.{Decision}
 use Rattle.command.specs.declared.Next.the-variants.{Reset, Gather, GoIdle, SetSpeed, Enter, EnterAt}
 use Rattle.command.specs.declared.Reply.the-variants.{Silence, Ack, AckAck, AckNack, Data, Crc}
 use Rattle.command.specs.declared.Why.the-variants.{BadComplement, UnknownCommand, AccessProtected, OtherFrame, BadRange, BadSector, UnsupportedErase, BadSpeed}
-use Rattle.rules.specs.Rules as Q
-use Rattle.rules.proofs.Rulings.{Ruling, _is_, decisions, papers, fresh, locked}
-use Rattle.can.specs.Conversation as C
+use Rattle.rules.specs.Rulings.{Ruling, _is_, Ruled, fresh, locked}
+use Rattle.can.specs.Conversation.{commandBytes, heard}
 use Rattle.frames.specs.Frames.{classic, frameIn, framed}
 use Rattle.can.specs.Steps.{stepNo}
 use Rattle.can.specs.declared.Step.{Step}
 use Rattle.can.specs.declared.Step.the-variants.{Idle, WriteData, EraseList, ProtectList}
 
--- n - 1, version and list, which ends with 03
-pub commands-told : C.commandBytes ≡ hex "0E 20 00 01 02 11 21 31 44 63 73 82 92 AC D4 03"
-commands-told = refl
-
--- ten bytes are one frame of eight and a last with what remains, unused data bytes 0
-pub cut-in-frames : framed classic 0x11 (hex "01 02 03 04 05 06 07 08 09 0A" ∷ [])
-    ≡ hex "00 11 08 01 02 03 04 05 06 07 08 00 11 02 09 0A 00 00 00 00 00 00"
-cut-in-frames = refl
-
 -- a frame comes to an idle session; and to one that gathers, with what it has taken, expects and keeps
-abbrev command : String → View → Decision
-command t view = C.heard Idle (record { taken = 0; expected = 1; address = 0; staged = replicate 257 0 }) view (frameIn (hex t))
+abbrev pub command : String → View → Decision
+command t view = heard Idle (record { taken = 0; expected = 1; address = 0; staged = replicate 257 0 }) view (frameIn (hex t))
 
-abbrev gathers : Step → ℕ → ℕ → ℕ → String → Decision
+abbrev pub gathers : Step → ℕ → ℕ → ℕ → String → Decision
 gathers s taken expected a t =
-    C.heard s (record { taken = taken; expected = expected; address = a; staged = replicate 257 0 }) fresh (frameIn (hex t))
+    heard s (record { taken = taken; expected = expected; address = a; staged = replicate 257 0 }) fresh (frameIn (hex t))
 
-abbrev rulings : List Ruling
+-- frames of each command, and of each step that gathers
+abbrev pub rulings : List Ruling
 rulings =
     (command "00 11 05 08 00 00 00 03 00 00 00" fresh is answer (Data Flash 0 4) GoIdle)
     ∷ (command "00 11 04 08 00 00 00 03 00 00 00" fresh is nack BadComplement)
@@ -67,6 +56,12 @@ rulings =
     ∷ (gathers ProtectList 0 2 0 "00 63 03 00 1F 00 00 00 00 00 00" is nack BadRange)
     ∷ []
 
-pub ruled : decisions rulings ≡ papers rulings
-unfolding placeOf viewOf writeProtected if_gives_else_ judged Q.unlessProtected Q.readAt Q.reading Q.writeVerdictAt Q.writeVerdict Q.writeAt Q.writing Q.selectorOf Q.eraseVerdict Q.erasing Q.eraseAllVerdict Q.protectVerdict Q.protecting Q.jumping Q.sumAt Q.summing C.erasedOrNot C.selected C.obeyed C.commanded C.gathering C.unlessExtra C.decided C.heard
-ruled = refl
+-- what is heard, and what is told
+pub record Rulings : Type 0 where
+  -- each frame is decided as the paper decides it
+  pub ruled : Ruled rulings
+  -- n - 1, version and list, which ends with 03
+  pub commandsTold : commandBytes ≡ hex "0E 20 00 01 02 11 21 31 44 63 73 82 92 AC D4 03"
+  -- ten bytes are one frame of eight and a last with what remains, unused data bytes 0
+  pub cut : framed classic 0x11 (hex "01 02 03 04 05 06 07 08 09 0A" ∷ [])
+      ≡ hex "00 11 08 01 02 03 04 05 06 07 08 00 11 02 09 0A 00 00 00 00 00 00"
