@@ -1,6 +1,8 @@
 -- The carriers, and what a session may expect on each: document 01, "Calls and the five causes".
 use Prim.Native.Nat.{ℕ}
+use mathlib.Core.Path.{_≡_}
 use mathlib.Core.Bool.{Bool, _&&_}
+use mathlib.Core.List.{[], _∷_, map}
 use lib.ListN.{length}
 use lib.Dec.{eqb, ltb}
 use Rattle.words.specs.Choice.{if_then_else_}
@@ -15,6 +17,10 @@ carrierNo None = 0
 carrierNo Uart = 1
 carrierNo Can = 2
 carrierNo Running = 3
+
+-- carrier: 0 none, 1 UART, 2 CAN, 3 running
+abbrev pub CarrierNumbers : Type 0
+CarrierNumbers = map carrierNo (None ∷ Uart ∷ Can ∷ Running ∷ []) ≡ 0 ∷ 1 ∷ 2 ∷ 3 ∷ []
 
 -- none and running have only step 0, and expect 1
 abbrev pub resting : ℕ

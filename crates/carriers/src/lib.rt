@@ -1,4 +1,5 @@
 pub mod gather;
+pub mod held;
 
 ghost use mathlib.Core.Path.{_≡_};
 ghost use Rattle.carriers.specs.Carriers.{carrierNo, idleExpects, stepSound};
