@@ -1,5 +1,3 @@
-pub mod Numbers
-pub mod Sessions
 pub mod Sound
 pub mod Good
 pub mod Accept

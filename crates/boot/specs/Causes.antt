@@ -1,6 +1,8 @@
 -- The five causes, in their order: document 01, "Calls and the five causes".
 use Prim.Native.Nat.{ℕ}
+use mathlib.Core.Path.{_≡_}
 use mathlib.Core.Bool.{Bool, true, false, not}
+use mathlib.Core.List.{[], _∷_, map}
 use Rattle.words.specs.Choice.{if_then_else_}
 use Rattle.boot.specs.Session.{on, sound}
 use Rattle.carriers.specs.declared.Carrier.the-variants.{Running}
@@ -16,6 +18,10 @@ causeNo ShortReply = 2
 causeNo BadFrame = 3
 causeNo UnsoundSession = 4
 causeNo BoardRunning = 5
+
+-- the table of causes: 0 accepted, 1 wrong memory, 2 short reply buffer, 3 no frame, 4 unsound session, 5 running
+abbrev pub CauseNumbers : Type 0
+CauseNumbers = map causeNo (Accepted ∷ WrongMemory ∷ ShortReply ∷ BadFrame ∷ UnsoundSession ∷ BoardRunning ∷ []) ≡ 0 ∷ 1 ∷ 2 ∷ 3 ∷ 4 ∷ 5 ∷ []
 
 -- a call is accepted
 abbrev pub accepts : Cause → Bool

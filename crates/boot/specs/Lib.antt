@@ -1,4 +1,5 @@
 pub mod Session
+pub mod Sessions
 pub mod Decide
 pub mod Causes
 pub mod Calls

@@ -1,4 +1,5 @@
 pub mod decide;
+pub mod held;
 pub mod steps;
 pub mod take;
 
