@@ -1,3 +1,2 @@
 pub mod Telling
-pub mod Whole
-pub mod Example
+mod Whole

@@ -102,5 +102,5 @@ prints-from (c ∷ cs) begun n p line e = by-test (eqb c lineFeed)
     by-test false f g = g (keep line c) (ap (λ (l : List ℕ). keep l c) e ∙ keep-more begun c)
 
 -- what desk hears from the start, and then the end of the input, prints what the paper says
-pub desk-prints : (input : List ℕ) → (hears input freshDesk then inputEnds) .text ≡ prints input
-desk-prints input = prints-from input [] 0 (powered freshMemories) [] refl
+pub hears-whole : (input : List ℕ) → (hears input freshDesk then inputEnds) .text ≡ prints input
+hears-whole input = prints-from input [] 0 (powered freshMemories) [] refl

@@ -1,5 +1,6 @@
 -- The program desk, over a whole input and character by character: document 01, "The program desk".
 use Prim.Native.Nat.{ℕ, suc}
+use mathlib.Core.Path.{_≡_}
 use mathlib.Core.List.{List, [], _∷_, _++_}
 use lib.Dec.{eqb, ltb}
 use lib.ListN.{length}
@@ -62,3 +63,12 @@ hears (c ∷ cs) d = if eqb c lineFeed then lineEnds d then hears cs else hears 
 -- the input ends, and with it a line that has begun
 unfoldable pub inputEnds : Desk → Told Desk
 inputEnds d = if ltb 0 (length (d .line)) then lineEnds d else quiet d
+
+-- ---- the two together
+
+-- what is printed does not depend on how the input comes in
+pub record DeskPrints : Type 0 where
+  -- characters heard to the end of the input print what the paper says of its lines
+  pub whole : (input : List ℕ) → (hears input freshDesk then inputEnds) .text ≡ prints input
+  -- and those that come in two parts print and leave what they would in one
+  pub parts : (a b : List ℕ) (d : Desk) → hears (a ++ b) d ≡ (hears a d then hears b)

@@ -25,5 +25,5 @@ abbrev pub printed : List String
 printed = "> 79" ∷ "> 79 20 01 07 79" ∷ ">" ∷ "> 079:79" ∷ "? 5" ∷ []
 
 -- the example holds
-pub record Example : Type 0 where
-  pub answers : prints (written typed) ≡ written printed
+abbrev pub Example : Type 0
+Example = prints (written typed) ≡ written printed

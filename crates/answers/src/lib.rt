@@ -1,3 +1,5 @@
+pub mod held;
+
 // The characters that begin an answer.
 pub const ANSWERED: u8 = b'>';
 

@@ -1,4 +1,4 @@
--- The example of document 01 holds, by computing the definitions over the whole board.
+-- The example is computed, over the whole board.
 use mathlib.Core.Path.{refl}
 use Rattle.board.specs.Regions as R
 use Rattle.board.specs.View as W
@@ -14,7 +14,12 @@ use Rattle.boot.specs.Calls as BK
 use Rattle.lines.specs.Lines.{kindOf}
 use Rattle.answers.specs.Answers.{tell, tells, answerBy, answer}
 use Rattle.answers.specs.Example.{Example}
+use Rattle.answers.proofs.held.example.Statement.{statement}
+use Rattle.answers.proofs.held.example.Tie as tie
 
-pub example : Example
+example : Example
 unfolding kindOf tell tells answerBy answer BK.call BK.perform BK.sent BK.decide BK.causeFor BC.causeOf BD.connected BD.decideByte BD.decideFrame BS.after BS.sound UC.obeyed UC.commanded UC.complete UC.heard S.says Q.unlessProtected D.if_gives_else_ E.effect W.viewOf W.writeProtected R.placeOf
-example = record { answers = refl }
+example = refl
+
+pub example-spec : {M : Type 1} → statement M
+example-spec = tie.close (tie.spec (λ c. example))
