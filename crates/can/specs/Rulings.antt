@@ -1,10 +1,13 @@
 -- Rulings of the CAN conversation that document 01 gives.
 use mathlib.Core.Path.{_≡_}
-use mathlib.Core.List.{List, [], _∷_}
-use Prim.Native.Nat.{ℕ}
+use mathlib.Core.Bool.{_&&_}
+use mathlib.Core.List.{List, [], _∷_, map}
+use Prim.Native.Nat.{ℕ, _%_}
 use Prim.Native.String.{String}
-use lib.ListN.{replicate}
+use lib.ListN.{length, replicate}
+use lib.Dec.{eqb, leb}
 use Rattle.words.specs.Hex.{hex}
+use Rattle.words.specs.Lists.{countFrom}
 use Rattle.board.specs.declared.Region.the-variants.{Flash}
 use Rattle.board.specs.declared.View.{View}
 use Rattle.memories.specs.declared.Change.the-variants.{Write, EraseAll, EraseSectors, ProtectOnly}
@@ -16,7 +19,7 @@ use Rattle.command.specs.declared.Why.the-variants.{BadComplement, UnknownComma
 use Rattle.rules.specs.Rulings.{Ruling, _is_, Ruled, fresh, locked}
 use Rattle.can.specs.Conversation.{commandBytes, heard}
 use Rattle.frames.specs.Frames.{classic, frameIn, framed}
-use Rattle.can.specs.Steps.{stepNo}
+use Rattle.can.specs.Steps.{stepNo, steps, stepOf, expects, expectedForNumbers, numbersIn}
 use Rattle.can.specs.declared.Step.{Step}
 use Rattle.can.specs.declared.Step.the-variants.{Idle, WriteData, EraseList, ProtectList}
 
@@ -65,3 +68,14 @@ pub record Rulings : Type 0 where
   -- ten bytes are one frame of eight and a last with what remains, unused data bytes 0
   pub cut : framed classic 0x11 (hex "01 02 03 04 05 06 07 08 09 0A" ∷ [])
       ≡ hex "00 11 08 01 02 03 04 05 06 07 08 00 11 02 09 0A 00 00 00 00 00 00"
+
+-- the steps, in document 01's numbers
+pub record StepRulings : Type 0 where
+  -- numbered from 0, idle first, then as listed
+  pub inOrder : map stepNo steps ≡ countFrom 0 (length steps)
+  pub readBack : (s : Step) → stepOf (stepNo s) ≡ s
+  -- what each may expect
+  pub expected : (e : ℕ) → map (λ (s : Step). expects s e) steps
+      ≡ eqb e 1 ∷ (leb 1 e && leb e 256) ∷ (leb 2 e && leb e 64 && eqb (e % 2) 0) ∷ (leb 1 e && leb e 256) ∷ []
+  -- X is read back from it
+  pub numbersBack : (x : ℕ) → numbersIn (expectedForNumbers x) ≡ x

@@ -1,18 +1,10 @@
--- Gathering puts bytes only where they are expected: behind the expected ones no staged byte changes, whatever was sent.
+-- Which of the new bytes a step takes.
 use mathlib.Core.Path.{_≡_, ap, sym, _∙_}
 use mathlib.Core.List.{List, [], _∷_}
-use Prim.Native.Nat.{ℕ, zero, suc, min, _-_, _≤_}
+use Prim.Native.Nat.{ℕ, zero, suc, min, _-_}
 use native.Mathlib.Nat.{zero-min, min-zero, suc-min-suc}
-use native.Mathlib.Omega.{arith}
-use lib.ListN.{length, getD, take, length-take}
-use Rattle.words.specs.Over.{newer}
-use Rattle.words.proofs.Over.{over-behind}
-use Rattle.command.specs.Progress.{Progress, fitting, stagedWith}
-
-pub behind-stays : (p : Progress) (new : List ℕ) (i : ℕ) → p .taken ≤ p .expected → p .expected ≤ i
-    → getD (stagedWith p new) i 0 ≡ getD (p .staged) i 0
-behind-stays p new i h k =
-    over-behind newer (p .staged) (p .taken) (fitting p new) i (rw length-take (omega arith))
+use lib.ListN.{length, take, length-take}
+use Rattle.command.specs.Progress.{Progress, fitting}
 
 -- as many new bytes as are still expected, or as there are, are those that fit
 pub so-many-fit : (p : Progress) (new : List ℕ) (n : ℕ) → n ≡ min (p .expected - p .taken) (length new)

@@ -97,10 +97,6 @@ pub linear-by : (n u v : ℕ) → u < 2 ^ 32 → v < 2 ^ 32 → shiftedBy n (bit
 linear-by zero u v h k = refl
 linear-by (suc n) u v h k = ap (λ (x : ℕ). shiftedBy n x) (linear u v h k) ∙ linear-by n (shifted u) (shifted v) (moved-lt u h) (moved-lt v k)
 
-pub moved-by-lt : (n c : ℕ) → c < 2 ^ 32 → shiftedBy n c < 2 ^ 32
-moved-by-lt zero c h = h
-moved-by-lt (suc n) c h = moved-by-lt n (shifted c) (moved-lt c h)
-
 -- moves that let no bit fall out
 pub only-up : (n l : ℕ) → l * 2 ^ n < 2 ^ 32 → shiftedBy n l ≡ l * 2 ^ n
 only-up zero l h = omega arith

@@ -1,9 +1,12 @@
 -- Rulings of the UART conversation that document 01 gives.
 use mathlib.Core.Path.{_≡_}
-use mathlib.Core.List.{List, [], _∷_}
-use Prim.Native.Nat.{ℕ, _-_}
+use mathlib.Core.Bool.{_&&_}
+use mathlib.Core.List.{List, [], _∷_, map}
+use Prim.Native.Nat.{ℕ, _-_, _%_}
 use lib.ListN.{length, getD}
+use lib.Dec.{eqb, leb}
 use Rattle.words.specs.Hex.{hex}
+use Rattle.words.specs.Lists.{countFrom}
 use Rattle.board.specs.declared.Region.the-variants.{Flash}
 use Rattle.board.specs.declared.View.{View}
 use Rattle.memories.specs.declared.Change.the-variants.{Write, EraseAll, EraseSectors, ProtectOnly, Lock, Unlock}
@@ -14,7 +17,7 @@ use Rattle.command.specs.declared.Reply.the-variants.{Silence, Ack, AckAck, Dat
 use Rattle.command.specs.declared.Why.the-variants.{BadComplement, UnknownCommand, AccessProtected, BadChecksum, BadAddress, BadRange, UnsupportedErase}
 use Rattle.rules.specs.Rulings.{Ruling, _is_, Ruled, fresh, locked}
 use Rattle.uart.specs.Conversation.{commandBytes, heard}
-use Rattle.uart.specs.Steps.{stepNo}
+use Rattle.uart.specs.Steps.{stepNo, steps, stepOf, expects, expectedFor, countIn, expectedForNumbers, numbersIn}
 use Rattle.uart.specs.declared.Step.{Step}
 use Rattle.uart.specs.declared.Step.the-variants.{Idle, ReadAddress, JumpAddress, CrcAddress, ReadLength, WriteLength, WriteData, EraseSelector, SpecialCheck, EraseList, ProtectList, CrcCount}
 
@@ -60,3 +63,16 @@ pub record Rulings : Type 0 where
   pub ruled : Ruled rulings
   -- n, version and list, as 00 FF is answered
   pub commandsTold : commandBytes ≡ hex "0E 20 00 01 02 11 21 31 44 63 73 82 92 AC D4"
+
+-- the steps, in document 01's numbers
+pub record StepRulings : Type 0 where
+  -- numbered from 0, idle first, then as listed
+  pub inOrder : map stepNo steps ≡ countFrom 0 (length steps)
+  pub readBack : (s : Step) → stepOf (stepNo s) ≡ s
+  -- what each may expect
+  pub expected : (e : ℕ) → map (λ (s : Step). expects s e) steps
+      ≡ eqb e 2 ∷ eqb e 5 ∷ eqb e 5 ∷ eqb e 5 ∷ eqb e 5 ∷ eqb e 2 ∷ eqb e 1 ∷ (leb 2 e && leb e 257) ∷ eqb e 2 ∷ eqb e 1
+      ∷ (leb 3 e && leb e 65 && eqb (e % 2) 1) ∷ eqb e 1 ∷ (leb 2 e && leb e 257) ∷ eqb e 3 ∷ []
+  -- X is read back from it
+  pub bytesBack : (x : ℕ) → countIn (expectedFor x) ≡ x
+  pub numbersBack : (x : ℕ) → numbersIn (expectedForNumbers x) ≡ x

@@ -1,8 +1,13 @@
 // What document 01 rules of the UART conversation. Nothing is run here: each function's promise is a statement of specs/, so that a check
 // fails where its proof is missing.
-ghost use Rattle.uart.specs.Rulings.{Rulings};
+ghost use Rattle.uart.specs.Rulings.{Rulings, StepRulings};
 
 // Every step of the UART conversation, given bytes of the paper, is answered as the paper answers it, the checksums and the refusals too.
 pub fn rulings()
     ensures { λ _. ⌜ Rulings ⌝ }
+{}
+
+// The steps of UART have the paper's order and expect the paper's numbers of bytes, and a step's X is read back from what it expects.
+pub fn steps()
+    ensures { λ _. ⌜ StepRulings ⌝ }
 {}
