@@ -4,3 +4,4 @@ pub mod Decide
 pub mod Causes
 pub mod Calls
 pub mod Promise
+pub mod Refusals

@@ -1,11 +1,22 @@
-// What document 01 says of causes and sessions in its own numbers. Nothing is run here: each function's promise is a statement of specs/,
+// What document 01 says of causes, refusals and sessions in its own numbers. Nothing is run here: each function's promise is a statement of specs/,
 // so that a check fails where its proof is missing.
 ghost use Rattle.boot.specs.Causes.{CauseNumbers};
+ghost use Rattle.boot.specs.Refusals.{FirstCauses, Refusals};
 ghost use Rattle.boot.specs.Sessions.{Sessions};
 
 // The causes are numbered as the paper has them, from 0 for an accepted call to 5 for a board that is running.
 pub fn cause_numbers()
     ensures { λ _. ⌜ CauseNumbers ⌝ }
+{}
+
+// A call is refused for the first of the five causes that holds, and for nothing else.
+pub fn first_causes()
+    ensures { λ _. ⌜ FirstCauses ⌝ }
+{}
+
+// A call that gives a number other than 0 has length 0 and leaves the session, the three memories and the reply buffer as they were.
+pub fn refusals()
+    ensures { λ _. ⌜ Refusals ⌝ }
 {}
 
 // Each session that may follow another, number by number: at power on, connected, reset, gathering, idle, at a new speed, in a step, running.

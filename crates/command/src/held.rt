@@ -1,5 +1,5 @@
-// What document 01 says of the commands in its own hex, and of the bytes that they gather. Nothing is run here: each function's promise is a statement of specs/, so that a
-// check fails where its proof is missing.
+// What document 01 says of the commands in its own hex, and of the bytes that they gather. Nothing is run here: each function's promise is
+// a statement of specs/, so that a check fails where its proof is missing.
 ghost use Rattle.command.specs.Numbers.{Numbers};
 ghost use Rattle.command.specs.Progress.{Gathering};
 

@@ -10,9 +10,12 @@ use Rattle.can.specs.Rulings.{rulings, Rulings}
 use Rattle.can.proofs.held.rulings.Statement.{statement}
 use Rattle.can.proofs.held.rulings.Tie as tie
 
-ruled : Ruled rulings
+decided : Ruled rulings
 unfolding placeOf viewOf writeProtected if_gives_else_ judged Q.unlessProtected Q.readAt Q.reading Q.writeVerdictAt Q.writeVerdict Q.writeAt Q.writing Q.selectorOf Q.eraseVerdict Q.erasing Q.eraseAllVerdict Q.protectVerdict Q.protecting Q.jumping Q.sumAt Q.summing C.erasedOrNot C.selected C.obeyed C.commanded C.gathering C.unlessExtra C.decided C.heard
-ruled = refl
+decided = refl
+
+ruled : Rulings
+ruled = record { ruled = decided; commandsTold = refl; cut = refl }
 
 pub rulings-spec : {M : Type 1} → statement M
-rulings-spec = tie.close (tie.spec (λ c. record { ruled = ruled; commandsTold = refl; cut = refl }))
+rulings-spec = tie.close (tie.spec (λ c. ruled))

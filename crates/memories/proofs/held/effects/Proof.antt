@@ -1,5 +1,5 @@
 -- Each change lays bytes over one memory, or over each where the board is wiped: what is laid stands there, and nothing else changes.
-use mathlib.Core.Path.{_≡_, refl, _∙_}
+use mathlib.Core.Path.{_≡_, refl}
 use mathlib.Core.List.{List}
 use Prim.Native.Nat.{ℕ, _+_, _≤_, _<_}
 use native.Mathlib.Omega.{arith}
