@@ -27,7 +27,7 @@ abbrev pub stagedWith : Progress → List ℕ → List ℕ
 stagedWith p new = put (p .staged) (p .taken) (fitting p new)
 
 -- what is staged after some new bytes
-pub record Gathers (p : Progress) (new : List ℕ) : Type 0 where
+pub record Stages (p : Progress) (new : List ℕ) : Type 0 where
   -- each byte that is still expected stands at index taken and on
   pub taken : (i : ℕ) → i < length (fitting p new) → p .taken + i < length (p .staged) → getD (stagedWith p new) (p .taken + i) 0 ≡ getD new i 0
   -- those before stay
@@ -36,8 +36,8 @@ pub record Gathers (p : Progress) (new : List ℕ) : Type 0 where
   pub behind : (i : ℕ) → p .taken ≤ p .expected → p .expected ≤ i → getD (stagedWith p new) i 0 ≡ getD (p .staged) i 0
 
 -- the same of any step and any bytes
-abbrev pub Gathering : Type 0
-Gathering = (p : Progress) (new : List ℕ) → Gathers p new
+abbrev pub Staging : Type 0
+Staging = (p : Progress) (new : List ℕ) → Stages p new
 
 -- more bytes are expected after the new ones
 abbrev pub short : Progress → List ℕ → Bool

@@ -1,7 +1,7 @@
 // What document 01 says of the commands in its own hex, and of the bytes that they gather. Nothing is run here: each function's promise is
 // a statement of specs/, so that a check fails where its proof is missing.
 ghost use Rattle.command.specs.Numbers.{Numbers};
-ghost use Rattle.command.specs.Progress.{Gathering};
+ghost use Rattle.command.specs.Progress.{Staging};
 
 // Each carrier's list of commands is the paper's, each command is found by its own number, and 0x01 and 0x02 tell the paper's bytes.
 pub fn numbers()
@@ -9,6 +9,6 @@ pub fn numbers()
 {}
 
 // A step takes each byte to its own place and only as many as it expects: whatever else a frame carries is not kept, and no other byte changes.
-pub fn gathering()
-    ensures { λ _. ⌜ Gathering ⌝ }
+pub fn staging()
+    ensures { λ _. ⌜ Staging ⌝ }
 {}

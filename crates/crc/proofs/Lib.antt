@@ -1,2 +1,3 @@
+mod CheckValue
 mod Linear
 mod Tables

@@ -1,10 +1,9 @@
 -- An accepted call gives 0, and a refused one is promised to leave what it was given.
-use mathlib.Core.Path.{_≡_}
 use mathlib.Core.Bool.{Bool, true, false}
 use Rattle.words.specs.Choice.{if_then_else_}
 use Rattle.boot.specs.Causes.{accepts}
 use Rattle.boot.specs.Calls.{causeFor, viewIn, decide, perform, refused, call}
-use Rattle.boot.specs.Promise.{Left, outcome, Leaves, Took}
+use Rattle.boot.specs.Promise.{outcome, Leaves}
 use Rattle.boot.specs.Refusals.{Unchanged, Refusals}
 use Rattle.boot.proofs.held.refusals.Statement.{statement}
 use Rattle.boot.proofs.held.refusals.Tie as tie
