@@ -1,3 +1,3 @@
-mod CheckValue
+pub mod CheckValue
 mod Linear
 mod Tables
