@@ -13,7 +13,7 @@ use Rattle.theorems.specs.Secrecy.{isUnprotect, Call, PowerOn, TakeByte,
 
 -- ---- runs of the code
 
--- what is left where power on has handed back a session: it gives no number and no reply and is lent nothing, so the memories are as they were
+-- what is left where power on has handed back a session: it gives no number (written as 0) and no reply and is lent nothing, so the memories are as they were
 abbrev pub leftOn : Session → State → Left
 leftOn s p = left (record { number = 0; length = 0; session = s }) (p .memories) []
 
@@ -45,7 +45,7 @@ unfoldable pub endOf : State → List Left → State
 endOf p [] = p
 endOf p (l ∷ ls) = endOf (boardIn l) ls
 
--- any calls on any board can be run so, and what they leave is then what the definitions say
+-- for any calls on any board there is such a run, and what it leaves is what the definitions say
 pub record RunsOnce : Type 0 where
   pub some : (cs : List Call) (p : State) → Ran cs p (leavesOf cs p)
   pub one : (cs : List Call) (p : State) (ls : List Left) → Ran cs p ls → ls ≡ leavesOf cs p
@@ -62,7 +62,7 @@ shutIn [] p ls = true
 shutIn (c ∷ cs) p [] = true
 shutIn (c ∷ cs) p (l ∷ ls) = not (obeyed c p l) && shutIn cs (boardIn l) ls
 
--- of their first calls nothing that is seen differs, and no memory has changed behind these
+-- over the first calls of two runs nothing that is seen differs, and behind these no memory has changed
 pub record AlikeRuns (cs : List Call) (p q : State) (ls ks : List Left) : Type 0 where
   pub seen : seenIn cs p ls ≡ seenIn cs q ks
   pub first : endOf p (take (length cs) ls) .memories ≡ p .memories

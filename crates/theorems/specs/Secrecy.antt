@@ -41,7 +41,7 @@ unlocks Release = false
 unlocks Lock = false
 unlocks Unlock = true
 
--- an input is an Access Unprotect, and is obeyed: the memories are wiped, and protection is off
+-- an input is an Access Unprotect, and is obeyed; on a locked board the memories are then wiped, and protection is off
 unfoldable pub opens : Input → State → Bool
 opens i p = unlocks (done i p .change)
 

@@ -1,5 +1,5 @@
-// What is proved of the definitions alone. Nothing is run here: each function's promise is a statement of specs/, so that a check fails where its
-// proof is missing.
+// What is proved of the definitions, and of whatever keeps the calls' promises. Nothing is run here: each function's promise is a statement of specs/,
+// so that a check fails where its proof is missing.
 ghost use Rattle.theorems.specs.Talk.{WorkedTalk};
 ghost use Rattle.theorems.specs.Longest.{NoLongerCommand};
 ghost use Rattle.theorems.specs.Secrecy.{OpensExactly, StruckExactly, Demand3};
@@ -22,7 +22,7 @@ pub fn demand_three()
     ensures { λ _. ⌜ Demand3 ⌝ }
 {}
 
-// Calls that keep their promises leave what the definitions say, and any calls can be made so.
+// Calls that keep their promises leave what the definitions say, and for any calls there are such results.
 pub fn runs_once()
     ensures { λ _. ⌜ RunsOnce ⌝ }
 {}
