@@ -1,2 +1,2 @@
 pub mod Telling
-mod Whole
+pub mod Whole
