@@ -48,7 +48,8 @@ fn tell_byte(
     at: usize,
 ) -> Answered
     requires { ⌜ at + deskRoom * fieldCharacters ≤ length (now out) ⌝ }
-    ensures { λ r. ⌜ Tells (tell (Byte deskRoom byte) (stateOf session (now (flash .entry)) (now (sram .entry)) (now (usd .entry)))) at (now (out .entry)) (r .end) (now (out .exit)) (stateOf (r .session) (now (flash .exit)) (now (sram .exit)) (now (usd .exit))) ⌝ }
+    ensures { λ r. ⌜ Tells (tell (Byte deskRoom byte) (stateOf session (now (flash .entry)) (now (sram .entry)) (now (usd .entry)))) at
+        (now (out .entry)) (r .end) (now (out .exit)) (stateOf (r .session) (now (flash .exit)) (now (sram .exit)) (now (usd .exit))) ⌝ }
     ensures { λ r. ⌜ r .end ≤ at + deskRoom * fieldCharacters ⌝ }
 {
     let mut buffer = [0u8; ROOM];
@@ -94,7 +95,9 @@ fn tell_bytes(
     at: usize,
 ) -> Answered
     requires { ⌜ T (areFields (now rest)) × (at + deskRoom * length (now rest) ≤ length (now out)) ⌝ }
-    ensures { λ r. ⌜ Tells (tells (map (Byte deskRoom) (fields (now (rest .entry)))) (stateOf session (now (flash .entry)) (now (sram .entry)) (now (usd .entry)))) at (now (out .entry)) (r .end) (now (out .exit)) (stateOf (r .session) (now (flash .exit)) (now (sram .exit)) (now (usd .exit))) ⌝ }
+    ensures { λ r. ⌜ Tells
+        (tells (map (Byte deskRoom) (fields (now (rest .entry)))) (stateOf session (now (flash .entry)) (now (sram .entry)) (now (usd .entry)))) at
+        (now (out .entry)) (r .end) (now (out .exit)) (stateOf (r .session) (now (flash .exit)) (now (sram .exit)) (now (usd .exit))) ⌝ }
     ensures { λ r. ⌜ r .end ≤ at + deskRoom * length (now (rest .entry)) ⌝ }
 {
     let n = rest.len();
@@ -130,7 +133,9 @@ fn tell_frame(
     at: usize,
 ) -> Answered
     requires { ⌜ T (areFrame (now rest)) × (at + deskRoom * length (now rest) ≤ length (now out)) ⌝ }
-    ensures { λ r. ⌜ Tells (tells (Framed deskRoom (frameWritten (now (rest .entry))) ∷ []) (stateOf session (now (flash .entry)) (now (sram .entry)) (now (usd .entry)))) at (now (out .entry)) (r .end) (now (out .exit)) (stateOf (r .session) (now (flash .exit)) (now (sram .exit)) (now (usd .exit))) ⌝ }
+    ensures { λ r. ⌜ Tells
+        (tells (Framed deskRoom (frameWritten (now (rest .entry))) ∷ []) (stateOf session (now (flash .entry)) (now (sram .entry)) (now (usd .entry))))
+        at (now (out .entry)) (r .end) (now (out .exit)) (stateOf (r .session) (now (flash .exit)) (now (sram .exit)) (now (usd .exit))) ⌝ }
     ensures { λ r. ⌜ r .end ≤ at + deskRoom * length (now (rest .entry)) ⌝ }
 {
     let mut input = [0u8; frames::BYTES];
@@ -158,7 +163,9 @@ fn tell_line(
     at: usize,
 ) -> Answered
     requires { ⌜ (kind ≡ kindOf (now line)) × (at + deskRoom * length (now line) ≤ length (now out)) ⌝ }
-    ensures { λ r. ⌜ Tells (tells (callsOf kind (now (line .entry))) (stateOf session (now (flash .entry)) (now (sram .entry)) (now (usd .entry)))) at (now (out .entry)) (r .end) (now (out .exit)) (stateOf (r .session) (now (flash .exit)) (now (sram .exit)) (now (usd .exit))) ⌝ }
+    ensures { λ r. ⌜ Tells
+        (tells (callsOf kind (now (line .entry))) (stateOf session (now (flash .entry)) (now (sram .entry)) (now (usd .entry)))) at
+        (now (out .entry)) (r .end) (now (out .exit)) (stateOf (r .session) (now (flash .exit)) (now (sram .exit)) (now (usd .exit))) ⌝ }
     ensures { λ r. ⌜ r .end ≤ at + deskRoom * length (now (line .entry)) ⌝ }
 {
     match kind {
@@ -187,7 +194,9 @@ fn obey(
     at: usize,
 ) -> Answered
     requires { ⌜ (kind ≡ kindOf (now line)) × (at + answerRoom (length (now line)) ≤ length (now out)) ⌝ }
-    ensures { λ r. ⌜ Tells (obeyed (tells (callsOf kind (now (line .entry))) (stateOf session (now (flash .entry)) (now (sram .entry)) (now (usd .entry))))) at (now (out .entry)) (r .end) (now (out .exit)) (stateOf (r .session) (now (flash .exit)) (now (sram .exit)) (now (usd .exit))) ⌝ }
+    ensures { λ r. ⌜ Tells
+        (obeyed (tells (callsOf kind (now (line .entry))) (stateOf session (now (flash .entry)) (now (sram .entry)) (now (usd .entry))))) at
+        (now (out .entry)) (r .end) (now (out .exit)) (stateOf (r .session) (now (flash .exit)) (now (sram .exit)) (now (usd .exit))) ⌝ }
     ensures { λ r. ⌜ r .end ≤ at + answerRoom (length (now (line .entry))) ⌝ }
 {
     out[at] = ANSWERED;
@@ -225,7 +234,8 @@ pub fn answer(
     at: usize,
 ) -> Answered
     requires { ⌜ at + answerRoom (length (now line)) ≤ length (now out) ⌝ }
-    ensures { λ r. ⌜ Tells (answer number (now (line .entry)) (stateOf session (now (flash .entry)) (now (sram .entry)) (now (usd .entry)))) at (now (out .entry)) (r .end) (now (out .exit)) (stateOf (r .session) (now (flash .exit)) (now (sram .exit)) (now (usd .exit))) ⌝ }
+    ensures { λ r. ⌜ Tells (answer number (now (line .entry)) (stateOf session (now (flash .entry)) (now (sram .entry)) (now (usd .entry))))
+        at (now (out .entry)) (r .end) (now (out .exit)) (stateOf (r .session) (now (flash .exit)) (now (sram .exit)) (now (usd .exit))) ⌝ }
     ensures { λ r. ⌜ r .end ≤ at + answerRoom (length (now (line .entry))) ⌝ }
 {
     let kind = line::kind(line);

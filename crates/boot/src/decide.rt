@@ -62,7 +62,8 @@ impl Session {
         taken: Session,
         view: View,
     ) -> Decision
-        requires { ⌜ T (sound self) × (taken ≡ gathered (now carried) self) × (length (now carried) ≤ classic .largest) × (getD (now carried) addressBytes 0 < 256) ⌝ }
+        requires { ⌜ T (sound self) × (taken ≡ gathered (now carried) self) × (length (now carried) ≤ classic .largest)
+            × (getD (now carried) addressBytes 0 < 256) ⌝ }
         ensures { λ r. ⌜ (r ≡ decideFrame self view (frameOf id (now (carried .entry)))) × T (sayable (r .reply)) × T (fits (r .change) (taken .staged)) ⌝ }
     {
         let here = self.on(Carrier::Can);

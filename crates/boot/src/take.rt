@@ -154,7 +154,8 @@ impl Session {
         usd: &mut [u8],
         buffer: &mut [u8],
     ) -> Taken
-        ensures { λ r. ⌜ Took (givenFrame self (now (frame .entry)) (were flash sram usd) (now (buffer .entry))) (left r (are flash sram usd) (now (buffer .exit))) ⌝ }
+        ensures { λ r. ⌜ Took (givenFrame self (now (frame .entry)) (were flash sram usd) (now (buffer .entry)))
+            (left r (are flash sram usd) (now (buffer .exit))) ⌝ }
     {
         let cause = self.frame_cause(frame, flash.len(), sram.len(), usd.len(), buffer.len());
         let clear = cause.accepts();

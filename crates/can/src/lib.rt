@@ -109,7 +109,8 @@ pub fn gathering(
     done: Decision,
 ) -> Decision
     requires { ⌜ (taken < expected) × (expected ≤ largestCount) × (dlc ≤ classic .largest) ⌝ }
-    ensures { λ r. ⌜ r ≡ (if not (eqb id running) || eqb dlc 0 gives nack OtherFrame else if ltb (taken + dlc) expected gives answer Silence Gather else done) ⌝ }
+    ensures { λ r. ⌜ r ≡
+        (if not (eqb id running) || eqb dlc 0 gives nack OtherFrame else if ltb (taken + dlc) expected gives answer Silence Gather else done) ⌝ }
 {
     let other = (id != running as u16) | (dlc == 0);
     if other {

@@ -50,7 +50,8 @@ fn erase_frame(
     id: u16,
     carried: &[u8],
 ) -> Decision
-    requires { ⌜ (taken < expected) × (expected ≤ expectedForNumbers (sectors .count)) × (length (now bytes) ≡ stagedBytes) × (length (now carried) ≤ classic .largest) ⌝ }
+    requires { ⌜ (taken < expected) × (expected ≤ expectedForNumbers (sectors .count)) × (length (now bytes) ≡ stagedBytes)
+        × (length (now carried) ≤ classic .largest) ⌝ }
     ensures { λ r. ⌜ r ≡ decided Step.EraseList (progressAt taken expected 0 (now (bytes .entry))) view (frameOf id (now (carried .entry))) ⌝ }
 {
     let done = list_deciding::erase::erase(view, bytes, expected / 2);

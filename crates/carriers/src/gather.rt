@@ -17,7 +17,8 @@ pub fn stage(staged: &mut [u8; STAGED], at: usize, new: &[u8], n: usize)
 // Stages new bytes as far as a step expects them, whatever its address, and tells how many it has then taken.
 pub fn gather(staged: &mut [u8; STAGED], taken: usize, expected: usize, new: &[u8]) -> usize
     requires { ⌜ (taken < expected) × (expected ≤ stagedBytes) ⌝ }
-    ensures { λ r. ⌜ (r ≡ taken + length (fitting (progressAt taken expected 0 (now (staged .entry))) (now (new .entry)))) × (now (staged .exit) ≡ stagedWith (progressAt taken expected 0 (now (staged .entry))) (now (new .entry))) ⌝ }
+    ensures { λ r. ⌜ (r ≡ taken + length (fitting (progressAt taken expected 0 (now (staged .entry))) (now (new .entry))))
+        × (now (staged .exit) ≡ stagedWith (progressAt taken expected 0 (now (staged .entry))) (now (new .entry))) ⌝ }
 {
     let fit = words::least(expected - taken, new.len());
     stage(staged, taken, new, fit);

@@ -58,7 +58,8 @@ fn erase_sector(flash: &mut [u8], sector: Sector)
 
 // Erases the x sectors whose two-byte numbers are staged.
 fn erase_sectors(flash: &mut [u8], staged: &[u8], x: usize)
-    requires { ⌜ (length (now flash) ≡ extentOf Flash .bytes) × (x ≤ sectors .count) × (2 * x ≤ length (now staged)) × T (all isSector (firstNumbered x (now staged))) ⌝ }
+    requires { ⌜ (length (now flash) ≡ extentOf Flash .bytes) × (x ≤ sectors .count) × (2 * x ≤ length (now staged))
+        × T (all isSector (firstNumbered x (now staged))) ⌝ }
     ensures { λ _. ⌜ now (flash .exit) ≡ erased (now (flash .entry)) (firstNumbered x (now (staged .entry))) ⌝ }
 {
     let end = 2 * x;

@@ -28,7 +28,8 @@ pub extern "C" fn oilthicket_take_byte(
     buffer: &mut [u8],
     length: &mut usize,
 ) -> u8
-    ensures { λ r. ⌜ Takes (givenByte (sessionIn (now (session .entry))) byte (were flash sram usd) (now (buffer .entry))) (now (session .entry)) r (now (length .exit)) (now (session .exit)) (are flash sram usd) (now (buffer .exit)) ⌝ }
+    ensures { λ r. ⌜ Takes (givenByte (sessionIn (now (session .entry))) byte (were flash sram usd) (now (buffer .entry)))
+        (now (session .entry)) r (now (length .exit)) (now (session .exit)) (are flash sram usd) (now (buffer .exit)) ⌝ }
 {
     let taken = lent::read(session).take_byte(byte, flash, sram, usd, buffer);
     *length = taken.length;
@@ -46,7 +47,8 @@ pub extern "C" fn oilthicket_take_frame(
     buffer: &mut [u8],
     length: &mut usize,
 ) -> u8
-    ensures { λ r. ⌜ Takes (givenFrame (sessionIn (now (session .entry))) (now (frame .entry)) (were flash sram usd) (now (buffer .entry))) (now (session .entry)) r (now (length .exit)) (now (session .exit)) (are flash sram usd) (now (buffer .exit)) ⌝ }
+    ensures { λ r. ⌜ Takes (givenFrame (sessionIn (now (session .entry))) (now (frame .entry)) (were flash sram usd) (now (buffer .entry)))
+        (now (session .entry)) r (now (length .exit)) (now (session .exit)) (are flash sram usd) (now (buffer .exit)) ⌝ }
 {
     let taken = lent::read(session).take_frame(frame, flash, sram, usd, buffer);
     *length = taken.length;

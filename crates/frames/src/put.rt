@@ -28,7 +28,8 @@ pub fn put_frames(
     at: usize,
 ) -> usize
     requires { ⌜ (0 < piece) × (piece ≤ size) × (size ≤ largestByte) × (at + length (frames (ofSize size) id (cut piece (now bytes))) ≤ length (now buffer)) ⌝ }
-    ensures { λ r. ⌜ (r ≡ at + length (frames (ofSize size) id (cut piece (now (bytes .entry))))) × (now (buffer .exit) ≡ put (now (buffer .entry)) at (frames (ofSize size) id (cut piece (now (bytes .entry))))) ⌝ }
+    ensures { λ r. ⌜ (r ≡ at + length (frames (ofSize size) id (cut piece (now (bytes .entry)))))
+        × (now (buffer .exit) ≡ put (now (buffer .entry)) at (frames (ofSize size) id (cut piece (now (bytes .entry))))) ⌝ }
 {
     let n = bytes.len();
     let mut end = at;

@@ -13,7 +13,8 @@ use written::first::LINE_FEED;
 // What is kept of a line: one character more than it may have tells that it is too long.
 pub const KEPT_CHARACTERS: usize = MOST_CHARACTERS + 1;
 
-// What desk knows of its host between two characters: the session, how many lines were answered, how many characters are kept of the line that has begun, and where the text ends.
+// What desk knows of its host between two characters: the session, how many lines were answered, how many characters are kept of the line that has
+// begun, and where the text ends.
 pub struct Desk {
     pub session: Session,
     pub lines: u64,
@@ -50,7 +51,9 @@ fn end_line(
     out: &mut [u8],
 ) -> Desk
     requires { ⌜ (desk .kept ≤ length (now line)) × (desk .lines + 1 < 2 ^ 64) × (desk .end + answerRoom (desk .kept) ≤ length (now out)) ⌝ }
-    ensures { λ r. ⌜ Tells (lineEnds (deskOf desk (now (line .entry)) (now (flash .entry)) (now (sram .entry)) (now (usd .entry)))) (desk .end) (now (out .entry)) (r .end) (now (out .exit)) (deskOf r (now (line .entry)) (now (flash .exit)) (now (sram .exit)) (now (usd .exit))) ⌝ }
+    ensures { λ r. ⌜ Tells (lineEnds (deskOf desk (now (line .entry)) (now (flash .entry)) (now (sram .entry)) (now (usd .entry))))
+        (desk .end) (now (out .entry)) (r .end) (now (out .exit))
+        (deskOf r (now (line .entry)) (now (flash .exit)) (now (sram .exit)) (now (usd .exit))) ⌝ }
     ensures { λ r. ⌜ (r .end ≤ desk .end + answerRoom (desk .kept)) × (r .kept ≡ 0) × (r .lines ≡ desk .lines + 1) ⌝ }
 {
     let session = desk.session;
@@ -85,9 +88,15 @@ fn go_on(
     usd: &mut [u8],
     out: &mut [u8],
 ) -> Heard
-    requires { ⌜ (desk .kept ≤ length (now line)) × (desk .lines + 1 + length (now rest) < 2 ^ 64) × (desk .end + answerRoom (desk .kept) + length (now rest) ≤ length (now out)) ⌝ }
-    ensures { λ r. ⌜ Continues (hears (drop (r .characters) (now (rest .entry))) (deskOf (r .desk) (now (line .entry)) (now (flash .exit)) (now (sram .exit)) (now (usd .exit)))) (r .desk .end) (now (out .exit)) (lineEnds (deskOf desk (now (line .entry)) (now (flash .entry)) (now (sram .entry)) (now (usd .entry))) then hears (now (rest .entry))) (desk .end) (now (out .entry)) ⌝ }
-    ensures { λ r. ⌜ (r .characters ≤ length (now (rest .entry))) × (r .desk .kept ≡ 0) × (r .desk .lines ≤ desk .lines + 1 + r .characters) × (r .desk .end ≤ desk .end + answerRoom (desk .kept) + r .characters) ⌝ }
+    requires { ⌜ (desk .kept ≤ length (now line)) × (desk .lines + 1 + length (now rest) < 2 ^ 64)
+        × (desk .end + answerRoom (desk .kept) + length (now rest) ≤ length (now out)) ⌝ }
+    ensures { λ r. ⌜ Continues
+        (hears (drop (r .characters) (now (rest .entry))) (deskOf (r .desk) (now (line .entry)) (now (flash .exit)) (now (sram .exit)) (now (usd .exit))))
+        (r .desk .end) (now (out .exit))
+        (lineEnds (deskOf desk (now (line .entry)) (now (flash .entry)) (now (sram .entry)) (now (usd .entry))) then hears (now (rest .entry)))
+        (desk .end) (now (out .entry)) ⌝ }
+    ensures { λ r. ⌜ (r .characters ≤ length (now (rest .entry))) × (r .desk .kept ≡ 0) × (r .desk .lines ≤ desk .lines + 1 + r .characters)
+        × (r .desk .end ≤ desk .end + answerRoom (desk .kept) + r .characters) ⌝ }
 {
     let next = end_line(desk, line, flash, sram, usd, out);
     let session = next.session;
@@ -116,8 +125,11 @@ pub fn hear(
     usd: &mut [u8],
     out: &mut [u8],
 ) -> Desk
-    requires { ⌜ (length (now line) ≡ keptCharacters) × (desk .kept ≤ keptCharacters) × (desk .lines + length (now text) < 2 ^ 64) × (desk .end + deskRoom * (desk .kept + length (now text)) ≤ length (now out)) ⌝ }
-    ensures { λ r. ⌜ Tells (hears (now (text .entry)) (deskOf desk (now (line .entry)) (now (flash .entry)) (now (sram .entry)) (now (usd .entry)))) (desk .end) (now (out .entry)) (r .end) (now (out .exit)) (deskOf r (now (line .exit)) (now (flash .exit)) (now (sram .exit)) (now (usd .exit))) ⌝ }
+    requires { ⌜ (length (now line) ≡ keptCharacters) × (desk .kept ≤ keptCharacters) × (desk .lines + length (now text) < 2 ^ 64)
+        × (desk .end + deskRoom * (desk .kept + length (now text)) ≤ length (now out)) ⌝ }
+    ensures { λ r. ⌜ Tells
+        (hears (now (text .entry)) (deskOf desk (now (line .entry)) (now (flash .entry)) (now (sram .entry)) (now (usd .entry)))) (desk .end)
+        (now (out .entry)) (r .end) (now (out .exit)) (deskOf r (now (line .exit)) (now (flash .exit)) (now (sram .exit)) (now (usd .exit))) ⌝ }
     ensures { λ r. ⌜ (r .end ≤ length (now (out .entry))) × (r .kept ≤ keptCharacters) × (r .lines ≤ desk .lines + length (now (text .entry))) ⌝ }
 {
     let n = text.len();
@@ -149,7 +161,9 @@ pub fn finish(
     out: &mut [u8],
 ) -> Desk
     requires { ⌜ (desk .kept ≤ length (now line)) × (desk .lines + 1 < 2 ^ 64) × (desk .end + answerRoom (desk .kept) ≤ length (now out)) ⌝ }
-    ensures { λ r. ⌜ Tells (inputEnds (deskOf desk (now (line .entry)) (now (flash .entry)) (now (sram .entry)) (now (usd .entry)))) (desk .end) (now (out .entry)) (r .end) (now (out .exit)) (deskOf r (now (line .entry)) (now (flash .exit)) (now (sram .exit)) (now (usd .exit))) ⌝ }
+    ensures { λ r. ⌜ Tells (inputEnds (deskOf desk (now (line .entry)) (now (flash .entry)) (now (sram .entry)) (now (usd .entry))))
+        (desk .end) (now (out .entry)) (r .end) (now (out .exit))
+        (deskOf r (now (line .entry)) (now (flash .exit)) (now (sram .exit)) (now (usd .exit))) ⌝ }
     ensures { λ r. ⌜ r .end ≤ length (now (out .entry)) ⌝ }
 {
     if 0 < desk.kept {

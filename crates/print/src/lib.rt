@@ -80,7 +80,8 @@ fn unspaced(bytes: &[u8], out: &mut [u8], at: usize) -> usize
 // Prints a frame after one space, as ID:data with its DLC bytes, and tells where it ends.
 fn frame(frame: &[u8], out: &mut [u8], at: usize) -> usize
     requires { ⌜ (length (now frame) ≡ frameBytes classic) × (at + 2 * frameBytes classic ≤ length (now out)) ⌝ }
-    ensures { λ r. ⌜ (r ≡ at + length (spelledFrame (frameIn (now (frame .entry))))) × (r ≤ at + 2 * frameBytes classic) × (now (out .exit) ≡ put (now (out .entry)) at (spelledFrame (frameIn (now (frame .entry))))) ⌝ }
+    ensures { λ r. ⌜ (r ≡ at + length (spelledFrame (frameIn (now (frame .entry))))) × (r ≤ at + 2 * frameBytes classic)
+        × (now (out .exit) ≡ put (now (out .entry)) at (spelledFrame (frameIn (now (frame .entry))))) ⌝ }
 {
     let high = frame[0];
     let low = frame[1];
@@ -100,7 +101,8 @@ fn frame(frame: &[u8], out: &mut [u8], at: usize) -> usize
 // Prints the frames of a reply, and tells where they end.
 pub fn frames(reply: &[u8], out: &mut [u8], at: usize) -> usize
     requires { ⌜ (length (now reply) % frameBytes classic ≡ 0) × (at + 2 * length (now reply) ≤ length (now out)) ⌝ }
-    ensures { λ r. ⌜ (r ≡ at + length (spelledFrames (now (reply .entry)))) × (r ≤ at + 2 * length (now (reply .entry))) × (now (out .exit) ≡ put (now (out .entry)) at (spelledFrames (now (reply .entry)))) ⌝ }
+    ensures { λ r. ⌜ (r ≡ at + length (spelledFrames (now (reply .entry)))) × (r ≤ at + 2 * length (now (reply .entry)))
+        × (now (out .exit) ≡ put (now (out .entry)) at (spelledFrames (now (reply .entry)))) ⌝ }
 {
     let n = reply.len();
     let mut end = at;

@@ -199,7 +199,8 @@ fn fixed_bytes(commands: Fixed, reply: Reply) -> Fixed
 // Writes the checksum of n bytes of flash behind ACK.
 fn say_sum(flash: &[u8], at: usize, n: usize, buffer: &mut [u8]) -> usize
     requires { ⌜ (at + n ≤ length (now flash)) × (replyRoom ≤ length (now buffer)) ⌝ }
-    ensures { λ r. ⌜ (r ≡ length (ackByte ∷ fourBytes (crc (part at n (now (flash .entry)))))) × (now (buffer .exit) ≡ put (now (buffer .entry)) 0 (ackByte ∷ fourBytes (crc (part at n (now (flash .entry)))))) ⌝ }
+    ensures { λ r. ⌜ (r ≡ length (ackByte ∷ fourBytes (crc (part at n (now (flash .entry))))))
+        × (now (buffer .exit) ≡ put (now (buffer .entry)) 0 (ackByte ∷ fourBytes (crc (part at n (now (flash .entry)))))) ⌝ }
 {
     let end = at + n;
     say_crc(crc::crc(&flash[at..end]), buffer)
@@ -215,7 +216,8 @@ pub fn say(
     buffer: &mut [u8],
 ) -> usize
     requires { ⌜ Holds commands × T (proper (held flash sram usd)) × T (sayable reply) × (replyRoom ≤ length (now buffer)) ⌝ }
-    ensures { λ r. ⌜ ((list : List ℕ) → Lists commands list → Said (join (says list reply (were flash sram usd))) r (now (buffer .entry)) (now (buffer .exit))) × (r ≤ replyRoom) × (T (fixed reply) → r ≤ fixedRoom) ⌝ }
+    ensures { λ r. ⌜ ((list : List ℕ) → Lists commands list → Said (join (says list reply (were flash sram usd))) r (now (buffer .entry)) (now (buffer .exit)))
+        × (r ≤ replyRoom) × (T (fixed reply) → r ≤ fixedRoom) ⌝ }
 {
     match reply {
         Reply::Data(region, at, x) => say_data(region, at, x, flash, sram, usd, buffer),

@@ -21,7 +21,8 @@ use uart::Step;
 // What is decided on an address whose XOR, the fifth byte, is right.
 fn addressed(bytes: &[u8], decision: Decision) -> Decision
     requires { ⌜ length (now bytes) ≡ stagedBytes ⌝ }
-    ensures { λ r. ⌜ r ≡ (if checks (take addressBytes (now (bytes .entry))) (getD (now (bytes .entry)) addressBytes 0) gives decision else nack BadChecksum) ⌝ }
+    ensures { λ r. ⌜ r ≡
+        (if checks (take addressBytes (now (bytes .entry))) (getD (now (bytes .entry)) addressBytes 0) gives decision else nack BadChecksum) ⌝ }
 {
     let right = bytes[sent::ADDRESS_BYTES] == words::xor_from(0, bytes, sent::ADDRESS_BYTES);
     command::accept_if(right, decision, Why::BadChecksum)
