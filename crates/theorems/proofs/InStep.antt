@@ -40,6 +40,13 @@ use Rattle.boot.proofs.Causes.{accepted-clear}
 use Rattle.boot.proofs.Sound.{sound-taken, sound-step, uart-expects}
 use Rattle.command.proofs.Holds.{Holds, split}
 
+-- four tests that hold together
+pub four : (a b c d : Bool) → T (a && b && c && d) → T a × T b × T c × T d
+four a b c d h =
+    let three : T (a && b && c) = both-left (a && b && c) d h in
+    let two : T (a && b) = both-left (a && b) c three in
+    (both-left a b two, both-right a b two, both-right (a && b) c three, both-right (a && b && c) d h)
+
 -- a session is on one carrier
 pub one-carrier : (c k : Carrier) (s : Session) → (carrierNo c ≡ carrierNo k → ⊥) → T (on c s) → T (on k s) → ⊥
 one-carrier c k s n o q = n (sym (eqb→eq (s .carrier) (carrierNo c) o) ∙ eqb→eq (s .carrier) (carrierNo k) q)

@@ -58,7 +58,7 @@ use Rattle.boot.specs.Decide as BD
 use Rattle.boot.specs.Causes as BC
 use Rattle.boot.specs.Calls as BK
 use Rattle.theorems.specs.Talk.{freshBoard}
-use Rattle.theorems.proofs.InStep.{expects-at, accepted-sound}
+use Rattle.theorems.proofs.InStep.{four, expects-at, accepted-sound}
 use Rattle.theorems.specs.Longest.{longestWrite, behind, bytesLeft, between, isOver, isByte, sessionAfter, goesOn, NoLongerCommand}
 
 -- ---- what a decision may do at the end of a step
@@ -344,14 +344,6 @@ call-brings room b p small t o = by-test (accepts (causeFor (Byte room b) p)) t
     by-test false k = absurd k
 
 -- ---- all bytes of a command
-
--- four tests that hold together
-four : (a b c d : Bool) → T (a && b && c && d) → T a × T b × T c × T d
-four true true true true h = (tt, tt, tt, tt)
-four true true true false h = absurd h
-four true true false d h = absurd h
-four true false c d h = absurd h
-four false b c d h = absurd h
 
 few-from : (room : ℕ) (bs : List ℕ) (p : State) → T (on Uart (p .session)) → 0 < bytesLeft (p .session) → T (goesOn room bs p)
     → length bs < bytesLeft (p .session)

@@ -36,7 +36,7 @@ use Rattle.boot.specs.Calls.{State, powered, Input, Power, Byte, Framed, brings
 use Rattle.boot.specs.declared.Session.{Session}
 use Rattle.command.proofs.Holds.{Holds, split}
 use Rattle.theorems.specs.Secrecy.{inCan, unlocks, opens, isUnprotect, Exactly, OpensExactly}
-use Rattle.theorems.proofs.InStep.{byte-at, frame-at, expects-at, last-taken, isCall, accepted-sound, doneBy}
+use Rattle.theorems.proofs.InStep.{four, byte-at, frame-at, expects-at, last-taken, isCall, accepted-sound, doneBy}
 use Rattle.theorems.proofs.Made.{Parts, Sole, Second, decide-made, last-step, under-idle}
 
 -- two tests that hold together are the same
@@ -121,15 +121,6 @@ module _ (s : Session) (b : ℕ) (l : length (s .staged) ≡ 257) (one : s .take
 
 -- ---- one input to a sound session
 
--- the five parts of the test on UART
-five : (a b c d e : Bool) → T (a && b && c && d && e) → T a × T b × T c × T d × T e
-five true true true true true h = (tt, tt, tt, tt, tt)
-five true true true true false h = absurd h
-five true true true false e h = absurd h
-five true true false d e h = absurd h
-five true false c d e h = absurd h
-five false b c d e h = absurd h
-
 module _ (s : Session) (t : T (sound s)) (view : View) where
   module _ (room b : ℕ) (l : length (s .staged) ≡ 257) where
     abbrev bytes : List ℕ
@@ -153,7 +144,9 @@ module _ (s : Session) (t : T (sound s)) (view : View) where
 
     byte-opened : T (isUnprotect (Byte room b) s) → T (unlocks (decide (Byte room b) s view .change))
     byte-opened h =
-        let (o, i, k, c, d) = five (on Uart s) (eqb (s .step) 0) (eqb (s .taken) 1) (eqb (getD (s .staged) 0 0) 0x92) (eqb b 0x6D) h in
+        let first = on Uart s && eqb (s .step) 0 && eqb (s .taken) 1 && eqb (getD (s .staged) 0 0) 0x92 in
+        let (o, i, k, c) = four (on Uart s) (eqb (s .step) 0) (eqb (s .taken) 1) (eqb (getD (s .staged) 0 0) 0x92) (both-left first (eqb b 0x6D) h) in
+        let d = both-right first (eqb b 0x6D) h in
         let e : s .step ≡ 0 = eqb→eq (s .step) 0 i in
         let w : s .expected ≡ 2 = eqb→eq (s .expected) 2 (expects-at s t 0 o e) in
         let n : s .taken ≡ 1 = eqb→eq (s .taken) 1 k in
