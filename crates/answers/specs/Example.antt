@@ -1,21 +1,16 @@
 -- The example of document 01, "The program desk".
-use Prim.Native.Nat.{ℕ, zero, suc, _+_}
-use Prim.Native.Char.{code}
-use Prim.Native.String.{String, len, charAt}
+use Prim.Native.Nat.{ℕ}
+use Prim.Native.String.{String}
 use mathlib.Core.Path.{_≡_}
 use mathlib.Core.List.{List, [], _∷_, _++_}
+use Rattle.words.specs.Texts.{characters}
 use Rattle.lines.specs.Lines.{lineFeed}
 use Rattle.answers.specs.Desk.{prints}
-
--- n characters of a text, from place i on
-abbrev pub charactersFrom : String → ℕ → ℕ → List ℕ
-charactersFrom t i zero = []
-charactersFrom t i (suc n) = code (charAt t i) ∷ charactersFrom t (i + 1) n
 
 -- lines, each ended by LF
 abbrev pub written : List String → List ℕ
 written [] = []
-written (t ∷ ts) = charactersFrom t 0 (len t) ++ lineFeed ∷ written ts
+written (t ∷ ts) = characters t ++ lineFeed ∷ written ts
 
 -- what is typed, and what is printed, whole
 abbrev pub typed : List String
