@@ -1,0 +1,3 @@
+pub mod Adding
+pub mod Marked
+pub mod Numbered
