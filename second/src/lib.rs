@@ -7,12 +7,14 @@ pub mod calls;
 pub mod commands;
 pub mod crc;
 pub mod desk;
+pub mod files;
 pub mod frame;
 pub mod line;
 pub mod memories;
 pub mod refused;
 pub mod script;
 pub mod session;
+pub mod srecord;
 pub mod tally;
 pub mod vectors;
 

@@ -1,0 +1,139 @@
+//! Loading a text into an image of flash.
+
+use super::lines::lines;
+use super::record::{Kind, Record};
+use crate::board::{FLASH, SECTOR_BYTES};
+
+/// The number of an accepted text.
+pub const ACCEPTED: u8 = 0;
+
+/// Why a text is refused, with the number of Wish 1's order.
+#[derive(Clone, Copy, Debug, PartialEq, Eq)]
+#[repr(u8)]
+pub enum Cause {
+    /// The image has not 32,768 bytes.
+    WrongImageLength = 1,
+    /// A line is no record, or stands after the ending record.
+    BadLine = 2,
+    /// The last byte of a line is not its checksum.
+    BadChecksum = 3,
+    /// A data byte's address lies outside flash after the shift.
+    AddressOutsideFlash = 4,
+    /// A data byte's place was loaded by an earlier line.
+    Overlap = 5,
+    /// No line is faulty, and none ends the file.
+    NoEndingRecord = 6,
+}
+
+/// A refused text: why, and the line that decides, from 1, or 0 where no line does.
+#[derive(Clone, Copy, Debug, PartialEq, Eq)]
+pub struct Refusal {
+    /// Why it is refused.
+    pub cause: Cause,
+    /// The line's number.
+    pub line: usize,
+}
+
+/// What an accepted text has loaded.
+#[derive(Clone, Copy, Debug, PartialEq, Eq)]
+pub struct Loaded {
+    /// The data bytes.
+    pub bytes: usize,
+    /// The sectors that hold at least one of them.
+    pub sectors: usize,
+}
+
+/// What comes of loading a text.
+pub type Answer = Result<Loaded, Refusal>;
+
+/// The numbers of an answer: its cause, or `ACCEPTED`, and its line.
+pub fn numbers(answer: &Answer) -> (u8, usize) {
+    match answer {
+        Ok(_) => (ACCEPTED, 0),
+        Err(refusal) => (refusal.cause as u8, refusal.line),
+    }
+}
+
+/// Loads a text into an image, the shift added to each address; a refused text leaves the image.
+pub fn load(text: &[u8], shift: i16, image: &mut [u8]) -> Answer {
+    if image.len() != FLASH.bytes {
+        return Err(no_line(Cause::WrongImageLength));
+    }
+    let mut loading = Loading {
+        shift,
+        image: image.to_vec(),
+        is_loaded: vec![false; FLASH.bytes],
+        is_ended: false,
+    };
+    for (number, line) in (1..).zip(lines(text)) {
+        loading.take(line).map_err(|cause| Refusal {
+            cause,
+            line: number,
+        })?;
+    }
+    if !loading.is_ended {
+        return Err(no_line(Cause::NoEndingRecord));
+    }
+    image.copy_from_slice(&loading.image);
+    Ok(loading.loaded())
+}
+
+/// A refusal that no line decides.
+fn no_line(cause: Cause) -> Refusal {
+    Refusal { cause, line: 0 }
+}
+
+/// A text that is being loaded.
+struct Loading {
+    shift: i16,
+    image: Vec<u8>,
+    is_loaded: Vec<bool>,
+    is_ended: bool,
+}
+
+impl Loading {
+    /// Takes the next line, or tells its first fault.
+    fn take(&mut self, line: &[u8]) -> Result<(), Cause> {
+        let record = Record::read(line).filter(|_| !self.is_ended);
+        let record = record.ok_or(Cause::BadLine)?;
+        if !record.is_right {
+            return Err(Cause::BadChecksum);
+        }
+        match record.kind {
+            Kind::Data if !record.data.is_empty() => self.store(&record)?,
+            Kind::Header | Kind::Data | Kind::Number => {}
+            Kind::Ending => self.is_ended = true,
+        }
+        Ok(())
+    }
+
+    /// Puts the data of a record that has some into the image.
+    fn store(&mut self, record: &Record) -> Result<(), Cause> {
+        let first = place(record, self.shift).ok_or(Cause::AddressOutsideFlash)?;
+        let places = first..first + record.count();
+        let is_loaded = &mut self.is_loaded[places.clone()];
+        if is_loaded.contains(&true) {
+            return Err(Cause::Overlap);
+        }
+        is_loaded.fill(true);
+        for (byte, new) in self.image[places].iter_mut().zip(record.bytes()) {
+            *byte = new;
+        }
+        Ok(())
+    }
+
+    /// Counts what was loaded.
+    fn loaded(&self) -> Loaded {
+        let sectors = self.is_loaded.chunks(SECTOR_BYTES);
+        Loaded {
+            bytes: self.is_loaded.iter().filter(|loaded| **loaded).count(),
+            sectors: sectors.filter(|sector| sector.contains(&true)).count(),
+        }
+    }
+}
+
+/// The place in the image of a record's first byte, when all its bytes lie in flash after the shift.
+fn place(record: &Record, shift: i16) -> Option<usize> {
+    let address = i64::from(record.address) + i64::from(shift);
+    FLASH.offset_of(u32::try_from(address).ok()?, record.count())
+}

@@ -1,0 +1,91 @@
+//! What the programs say of a text that was loaded or refused, and of a file that was not read.
+
+use super::lines::lines;
+use super::load::{Answer, Cause, Loaded, Refusal};
+use super::record::Record;
+use crate::board::FLASH;
+use std::fs::File;
+use std::io::{self, Read};
+use std::path::Path;
+
+/// The most characters that a text may have.
+pub const MOST_CHARACTERS: usize = 2_097_152;
+
+/// What is added where an S1 or S2 record lies outside flash.
+const USE_S3: &str = ": S1 and S2 records cannot reach it; link at 0x08000000 and write S3 records";
+
+/// The type digits of records whose addresses end below flash.
+const SHORT_ADDRESSES: [u8; 2] = [1, 2];
+
+/// Says what came of loading a text; what is said follows the name of the text's file, or, where
+/// the image's length is wrong, of the image's.
+pub fn said(answer: &Answer, text: &[u8]) -> String {
+    match answer {
+        Ok(loaded) => said_loaded(loaded),
+        Err(refusal) => said_refused(refusal, text),
+    }
+}
+
+/// Says how much was loaded.
+fn said_loaded(loaded: &Loaded) -> String {
+    let bytes = counted(loaded.bytes, "byte");
+    let sectors = counted(loaded.sectors, "sector");
+    format!(": {bytes} in {sectors}")
+}
+
+/// A number of things, of which one has no plural.
+fn counted(number: usize, name: &str) -> String {
+    let plural = if number == 1 { "" } else { "s" };
+    format!("{number} {name}{plural}")
+}
+
+/// Says why a text is refused.
+fn said_refused(refusal: &Refusal, text: &[u8]) -> String {
+    let line = refusal.line;
+    match refusal.cause {
+        Cause::WrongImageLength => format!(": wrong image length: {} bytes wanted", FLASH.bytes),
+        Cause::BadLine => format!(":{line}: bad line"),
+        Cause::BadChecksum => format!(":{line}: bad checksum"),
+        Cause::AddressOutsideFlash => {
+            let why = if is_short(line, text) { USE_S3 } else { "" };
+            format!(":{line}: address outside flash{why}")
+        }
+        Cause::Overlap => format!(":{line}: overlap with an earlier line"),
+        Cause::NoEndingRecord => String::from(": no ending record"),
+    }
+}
+
+/// Tells whether the line of this number is an S1 or S2 record.
+fn is_short(number: usize, text: &[u8]) -> bool {
+    let line = (1..).zip(lines(text)).find(|(at, _)| *at == number);
+    let record = line.and_then(|(_, line)| Record::read(line));
+    record.is_some_and(|record| SHORT_ADDRESSES.contains(&record.digit))
+}
+
+/// Reads a text from a file, or says why that cannot be; what is said follows the file's name.
+pub fn read_text(path: &Path) -> Result<Vec<u8>, String> {
+    let text = read(path, MOST_CHARACTERS)?;
+    if text.len() > MOST_CHARACTERS {
+        return Err(format!(": longer than {MOST_CHARACTERS} characters"));
+    }
+    Ok(text)
+}
+
+/// Reads an image from a file, a longer one as one byte too long, or says why that cannot be.
+pub fn read_image(path: &Path) -> Result<Vec<u8>, String> {
+    read(path, FLASH.bytes)
+}
+
+/// Reads at most one byte more of a file than is allowed.
+fn read(path: &Path, most: usize) -> Result<Vec<u8>, String> {
+    let mut bytes = Vec::new();
+    let read = File::open(path).and_then(|file| file.take(most as u64 + 1).read_to_end(&mut bytes));
+    read.map(|_| bytes).map_err(|error| failed(&error))
+}
+
+/// Says what the system says of an error.
+pub fn failed(error: &io::Error) -> String {
+    let text = error.to_string();
+    let words = text.split(" (os error").next().unwrap_or_default();
+    format!(": {words}")
+}
