@@ -1,13 +1,14 @@
 -- What a slice that holds a frame says of its parts.
 use mathlib.Core.Path.{_≡_}
 use mathlib.Core.Bool.{_&&_}
-use mathlib.Core.List.{List, [], _∷_}
-use Prim.Native.Nat.{ℕ, zero, suc, _+_, _≤_, _<_}
+use mathlib.Core.List.{List}
+use Prim.Native.Nat.{ℕ, _+_, _≤_, _<_}
 use native.Mathlib.Omega.{arith}
 use lib.Dec.{T, eqb, leb, eqb→eq, leb→le}
-use lib.ListN.{length, getD, take, drop, length-drop}
+use lib.ListN.{length, getD, drop, length-drop}
 use lib.Seq.{length-take-le, getD-drop}
 use Rattle.board.specs.Quantities.{addressBytes}
+use Rattle.words.proofs.Bytes.{still-byte}
 use Rattle.words.proofs.Tests.{both-left, both-right}
 use Rattle.frames.specs.Frames.{classic, headBytes, frameIn, isFrame, carried}
 
@@ -30,13 +31,6 @@ module _ (l : List ℕ) (t : T (isFrame classic l)) where
       let e = frame-length in
       let h = frame-dlc in
       length-take-le (frameIn l .dlc) (drop 3 l) (omega (arith, length-drop 3 l))
-
--- a list of bytes, cut short, is still one of bytes
-still-byte : (n : ℕ) (l : List ℕ) → ((i : ℕ) → getD l i 0 < 256) → (i : ℕ) → getD (take n l) i 0 < 256
-still-byte zero l h i = omega arith
-still-byte (suc n) [] h i = omega arith
-still-byte (suc n) (x ∷ l) h zero = h zero
-still-byte (suc n) (x ∷ l) h (suc i) = still-byte n l (λ j. h (suc j)) i
 
 -- what a slice of bytes carries behind an address is a byte, where it holds a frame
 pub carried-byte : (l : List ℕ) → ((i : ℕ) → getD l i 0 < 256) → getD (carried (frameIn l)) addressBytes 0 < 256
