@@ -1,3 +1,2 @@
 pub mod CheckValue
-mod Linear
-mod Tables
+mod Taken

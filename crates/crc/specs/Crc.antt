@@ -1,8 +1,7 @@
 -- CRC-32/MPEG-2, high bit first, no reflection, no final XOR: document 01, "CRC".
-use Prim.Native.Nat.{ℕ, zero, suc, _*_, _%_, _^_, _<_}
+use Prim.Native.Nat.{ℕ, zero, suc, _*_, _%_, _^_}
 use mathlib.Core.Path.{_≡_}
 use mathlib.Core.List.{List, [], _∷_}
-use lib.ListN.{length, getD}
 use lib.Dec.{leb}
 use lib.Bits.{bitXor}
 use Rattle.words.specs.Choice.{if_then_else_}
@@ -24,11 +23,11 @@ abbrev pub shiftedBy : ℕ → ℕ → ℕ
 shiftedBy zero c = c
 shiftedBy (suc n) c = shiftedBy n (shifted c)
 
--- a byte goes in at the register's high end, and then its eight bits
+-- a byte is joined to the register's high end by XOR, and the register moves up by its eight bits
 unfoldable pub fed : ℕ → ℕ → ℕ
 fed c b = shiftedBy 8 (bitXor c (b * 2 ^ 24))
 
--- bytes in address order, from a register on
+-- bytes in their order, from a register on
 abbrev pub crcFrom : ℕ → List ℕ → ℕ
 crcFrom c [] = c
 crcFrom c (b ∷ bs) = crcFrom (fed c b) bs
@@ -40,11 +39,3 @@ crc bs = crcFrom start bs
 -- the public check value, over ASCII "123456789"
 abbrev pub CheckValue : Type 0
 CheckValue = crc (hex "31 32 33 34 35 36 37 38 39") ≡ 0x0376E6E7
-
--- a table of bytes: what n moves make of a register that has one of them at its high end, and nothing else
-abbrev pub tableSize : ℕ
-tableSize = 256
-
-pub record Table (n : ℕ) (t : List ℕ) : Type 0 where
-  pub size : length t ≡ tableSize
-  pub entry : (i : ℕ) → i < tableSize → getD t i 0 ≡ shiftedBy n (i * 2 ^ 24)

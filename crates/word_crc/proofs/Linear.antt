@@ -1,13 +1,13 @@
--- The register's moves are linear: what they make of a XOR is the XOR of what they make of its two parts.
+-- The register's shifts are linear: what they make of a XOR is the XOR of what they make of its two parts.
 use mathlib.Core.Path.{_≡_, refl, sym, ap, ap₂, _∙_}
 use Prim.Native.Nat.{ℕ, zero, suc, _+_, _*_, _/_, _%_, _^_, _<_}
 use native.Mathlib.Nat.{mul-assoc, mul-comm, pow-suc, le-mul-of-pos-right}
 use native.Mathlib.Omega.{arith}
 use lib.Arith.{bin-ind}
 use lib.Pow.{pow-pos}
-use lib.Bits.{bitXor, differ, xor-step, xor-zero-l, xor-zero-r, xor-comm, xor-self, xor-lt, xor-shr, xor-mod, xor-block}
+use lib.Bits.{bitXor, differ, xor-step, xor-zero-l, xor-zero-r, xor-comm, xor-self, xor-lt, xor-shr, xor-mod, xor-block, xor-shifted}
 use borrow.Author.Tests.{le-leb, lt-leb}
 use Rattle.crc.specs.Crc.{polynomial, shifted, shiftedBy}
 
 -- ---- XOR is associative
 
@@ -38,24 +38,26 @@ xor-assoc =
     ∙ sym (ap₂ (λ (x y : ℕ). bitXor (n / 2) x * 2 + differ (n % 2) y) (xor-shr b c 1) (xor-mod b c 1))
     ∙ sym (xor-step n (bitXor b c)))
 
--- ---- one move
+-- ---- one shift
 
--- what a move takes in, by the bit that falls out
+-- what a shift takes in, by the bit that falls out
 abbrev taken-in : ℕ → ℕ
 taken-in zero = 0
 taken-in (suc n) = polynomial
 
-moved : (c : ℕ) → c < 2 ^ 32 → shifted c ≡ bitXor (c * 2 % 2 ^ 32) (taken-in (c / 2 ^ 31))
+-- a shift, by the bit that falls out
+by-its-bit : (c : ℕ) → c < 2 ^ 32 → shifted c ≡ bitXor (c * 2 % 2 ^ 32) (taken-in (c / 2 ^ 31))
 unfolding shifted
-moved c h = by-bit (c / 2 ^ 31) refl
+by-its-bit c h = by-bit (c / 2 ^ 31) refl
   where
     by-bit : (q : ℕ) → c / 2 ^ 31 ≡ q → shifted c ≡ bitXor (c * 2 % 2 ^ 32) (taken-in q)
     by-bit zero e = rw (lt-leb (2 ^ 31) c (omega arith), xor-zero-r (c * 2 % 2 ^ 32)) refl
     by-bit (suc zero) e = rw (le-leb (2 ^ 31) c (omega arith)) refl
     by-bit (suc (suc q)) e = absurd (omega arith)
 
-pub moved-lt : (c : ℕ) → c < 2 ^ 32 → shifted c < 2 ^ 32
-moved-lt c h = rw (moved c h) (xor-lt 32 (c * 2 % 2 ^ 32) (taken-in (c / 2 ^ 31)) (omega arith) (small (c / 2 ^ 31)))
+-- a register stays one, shifted once
+pub shifted-lt : (c : ℕ) → c < 2 ^ 32 → shifted c < 2 ^ 32
+shifted-lt c h = rw (by-its-bit c h) (xor-lt 32 (c * 2 % 2 ^ 32) (taken-in (c / 2 ^ 31)) (omega arith) (small (c / 2 ^ 31)))
   where
     small : (q : ℕ) → taken-in q < 2 ^ 32
     small zero = omega arith
@@ -86,18 +88,23 @@ doubled u v =
 
 linear : (u v : ℕ) → u < 2 ^ 32 → v < 2 ^ 32 → shifted (bitXor u v) ≡ bitXor (shifted u) (shifted v)
 linear u v h k =
-    moved (bitXor u v) (xor-lt 32 u v h k)
+    by-its-bit (bitXor u v) (xor-lt 32 u v h k)
     ∙ ap₂ (λ (x y : ℕ). bitXor x (taken-in y)) (ap (λ (x : ℕ). x % 2 ^ 32) (doubled u v) ∙ xor-mod (u * 2) (v * 2) 32) (xor-shr u v 31)
     ∙ mixed (u * 2 % 2 ^ 32) (v * 2 % 2 ^ 32) (u / 2 ^ 31) (v / 2 ^ 31) (omega arith) (omega arith)
-    ∙ sym (ap₂ bitXor (moved u h) (moved v k))
+    ∙ sym (ap₂ bitXor (by-its-bit u h) (by-its-bit v k))
 
--- ---- many moves
+-- ---- many shifts
 
 pub linear-by : (n u v : ℕ) → u < 2 ^ 32 → v < 2 ^ 32 → shiftedBy n (bitXor u v) ≡ bitXor (shiftedBy n u) (shiftedBy n v)
 linear-by zero u v h k = refl
-linear-by (suc n) u v h k = ap (λ (x : ℕ). shiftedBy n x) (linear u v h k) ∙ linear-by n (shifted u) (shifted v) (moved-lt u h) (moved-lt v k)
+linear-by (suc n) u v h k = ap (λ (x : ℕ). shiftedBy n x) (linear u v h k) ∙ linear-by n (shifted u) (shifted v) (shifted-lt u h) (shifted-lt v k)
 
--- moves that let no bit fall out
+-- a register stays one, however often it is shifted
+pub shifted-by-lt : (n c : ℕ) → c < 2 ^ 32 → shiftedBy n c < 2 ^ 32
+shifted-by-lt zero c h = h
+shifted-by-lt (suc n) c h = shifted-by-lt n (shifted c) (shifted-lt c h)
+
+-- shifts that let no bit fall out
 pub only-up : (n l : ℕ) → l * 2 ^ n < 2 ^ 32 → shiftedBy n l ≡ l * 2 ^ n
 only-up zero l h = omega arith
 only-up (suc n) l h =
@@ -107,7 +114,7 @@ only-up (suc n) l h =
     ap (λ (x : ℕ). shiftedBy n x) (up l (omega arith)) ∙ only-up n (l * 2) (omega arith) ∙ sym a
   where
     up : (c : ℕ) → c < 2 ^ 31 → shifted c ≡ c * 2
-    up c k = moved c (omega arith) ∙ rw (d, q) (xor-zero-r (c * 2))
+    up c k = by-its-bit c (omega arith) ∙ rw (d, q) (xor-zero-r (c * 2))
       where
         d : c * 2 % 2 ^ 32 ≡ c * 2
         d = omega arith
@@ -115,11 +122,23 @@ only-up (suc n) l h =
         q : c / 2 ^ 31 ≡ 0
         q = omega arith
 
--- moves behind moves
-pub moved-then : (m n c : ℕ) → shiftedBy m (shiftedBy n c) ≡ shiftedBy (m + n) c
-moved-then m zero c =
+-- shifts behind shifts
+pub shifted-then : (m n c : ℕ) → shiftedBy m (shiftedBy n c) ≡ shiftedBy (m + n) c
+shifted-then m zero c =
     let e : m ≡ m + 0 = omega arith in
     ap (λ (k : ℕ). shiftedBy k c) e
-moved-then m (suc n) c =
+shifted-then m (suc n) c =
     let e : suc (m + n) ≡ m + suc n = omega arith in
-    moved-then m n (shifted c) ∙ ap (λ (k : ℕ). shiftedBy k c) e
+    shifted-then m n (shifted c) ∙ ap (λ (k : ℕ). shiftedBy k c) e
+
+-- what shifts make of the high byte, and of the others one byte further up
+pub peeled : (n m x : ℕ) → m + 8 ≡ n → x < 2 ^ 32
+    → shiftedBy n x ≡ bitXor (shiftedBy n (x / 2 ^ 24 * 2 ^ 24)) (shiftedBy m (x * 2 ^ 8 % 2 ^ 32))
+peeled n m x p h =
+    let high = x / 2 ^ 24 in
+    let low = x % 2 ^ 24 in
+    let e : x ≡ bitXor (high * 2 ^ 24) low = omega (arith, xor-shifted high 24 low (omega arith)) in
+    let l : shiftedBy 8 low ≡ x * 2 ^ 8 % 2 ^ 32 = omega (arith, only-up 8 low (omega arith)) in
+    let m8 : shiftedBy n low ≡ shiftedBy m (shiftedBy 8 low) = ap (λ (k : ℕ). shiftedBy k low) (sym p) ∙ sym (shifted-then m 8 low) in
+    ap (λ (r : ℕ). shiftedBy n r) e ∙ linear-by n (high * 2 ^ 24) low (omega arith) (omega arith)
+    ∙ ap (λ (r : ℕ). bitXor (shiftedBy n (high * 2 ^ 24)) r) (m8 ∙ ap (λ (r : ℕ). shiftedBy m r) l)

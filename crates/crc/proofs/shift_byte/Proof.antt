@@ -1,10 +1,10 @@
--- Each bit of a byte is one move.
+-- Each bit of a byte is one shift.
 use borrow.Author.Needs.{needs}
-use Rattle.crc.proofs.eight.Statement.{statement}
-use Rattle.crc.proofs.eight.Tie as tie
+use Rattle.crc.proofs.shift_byte.Statement.{statement}
+use Rattle.crc.proofs.shift_byte.Tie as tie
 
-pub eight-spec : {M : Type 1} → statement M
-eight-spec =
+pub shift-byte-spec : {M : Type 1} → statement M
+shift-byte-spec =
     tie.close
     (tie.spec
     (λ c κs. search needs)

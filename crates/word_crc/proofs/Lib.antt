@@ -1,0 +1,4 @@
+mod Entries
+mod Linear
+mod OutsideValues
+pub mod Words
