@@ -5,7 +5,7 @@ use crate::board::{
     SECTOR_BITS_FIRST, SECTOR_BYTES, SRAM, USD,
 };
 use crate::commands::{ACCESS_PROTECT, ACCESS_UNPROTECT, UNPROTECT};
-use crate::crc::crc32_mpeg2;
+use crate::crc::crc32_mpeg2_of_words;
 use crate::memories::Memories;
 use crate::refused::{require, Refused};
 use crate::session::Next;
@@ -182,12 +182,14 @@ pub fn sector_start(address: u32) -> Result<(), Refused> {
     require(offset.is_multiple_of(SECTOR_BYTES), Refused::SectorStart)
 }
 
-/// The CRC over whole sectors from a sector start on, all inside flash.
+/// The CRC over the words of whole sectors from a sector start on, all inside flash.
 pub fn firmware_crc(memories: &Memories, address: u32, sectors: usize) -> Result<u32, Refused> {
     sector_start(address)?;
     let bytes = sectors * SECTOR_BYTES;
     let offset = FLASH
         .offset_of(address, bytes)
         .ok_or(Refused::SectorRange)?;
-    Ok(crc32_mpeg2(&memories.flash[offset..offset + bytes]))
+    let (groups, rest) = memories.flash[offset..offset + bytes].as_chunks();
+    debug_assert!(rest.is_empty());
+    Ok(crc32_mpeg2_of_words(groups))
 }

@@ -4,3 +4,4 @@ pub mod Decision
 pub mod Progress
 pub mod Says
 pub mod Numbers
+pub mod BenchBoard

@@ -9,7 +9,7 @@ use Rattle.words.specs.Bytes.{byteOf, fourBytes}
 use Rattle.words.specs.Lists.{part, singly}
 use Rattle.board.specs.Board.{extentOf, flash, identity}
 use Rattle.board.specs.Quantities.{largestCount}
-use Rattle.crc.specs.Crc.{crc}
+use Rattle.word_crc.specs.Words.{wordCrc}
 use Rattle.memories.specs.Memories.{Memories, bytesOf}
 use Rattle.command.specs.declared.Reply.{Reply}
 use Rattle.command.specs.declared.Reply.the-variants.{Silence, Ack, AckAck, Nack, AckNack, Commands, Version, DeviceId, Data, Crc}
@@ -52,7 +52,7 @@ says commands Commands m = told commands
 says commands Version m = told versionBytes
 says commands DeviceId m = told deviceBytes
 says commands (Data r at x) m = ackMessage ∷ part at x (bytesOf r m) ∷ []
-says commands (Crc at n) m = ackMessage ∷ fourBytes (crc (part at n (m .flash))) ∷ []
+says commands (Crc at n) m = ackMessage ∷ fourBytes (wordCrc (part at n (m .flash))) ∷ []
 
 -- a reply tells nothing of a memory
 abbrev pub fixed : Reply → Bool

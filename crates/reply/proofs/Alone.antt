@@ -15,7 +15,7 @@ use Rattle.words.specs.Over.{put}
 use Rattle.words.proofs.Over.{put-then, put-front}
 use Rattle.words.specs.Bytes.{fourBytes}
 use Rattle.words.specs.Choice.{if_then_else_}
-use Rattle.crc.specs.Crc.{crc}
+use Rattle.word_crc.specs.Words.{wordCrc}
 use Rattle.memories.specs.Memories.{Memories, bytesOf}
 use Rattle.command.specs.Says.{replyRoom, ackMessage, told, versionBytes, deviceBytes, says, fixed, Said}
 use Rattle.command.proofs.Reply.{the-type}
@@ -130,7 +130,7 @@ module _ (id : ℕ) where
   reply-alone list Version m = told-alone versionBytes
   reply-alone list DeviceId m = told-alone deviceBytes
   reply-alone list (Data g at x) m = eights-alone (part at x (bytesOf g m))
-  reply-alone list (Crc at n) m = eights-alone (fourBytes (crc (part at n (m .flash))))
+  reply-alone list (Crc at n) m = eights-alone (fourBytes (wordCrc (part at n (m .flash))))
 
   -- there is room for them
   pub alone-room : (r : Reply) (l : List ℕ) → length l ≤ replyRoom → (T (fixed r) → length l ≤ fixedRoom)

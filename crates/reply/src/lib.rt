@@ -11,7 +11,7 @@ ghost use Rattle.words.specs.Lists.{join, part};
 ghost use Rattle.words.specs.Over.{put};
 ghost use Rattle.board.specs.Board.{extentOf};
 ghost use Rattle.board.specs.Quantities.{largestCount};
-ghost use Rattle.crc.specs.Crc.{crc};
+ghost use Rattle.word_crc.specs.Words.{wordCrc};
 ghost use Rattle.memories.specs.Lent.{held, were};
 ghost use Rattle.memories.specs.Memories.{Memories, proper, bytesOf};
 ghost use Rattle.command.specs.Says.{replyRoom, ackByte, says, sayable, fixed, Said};
@@ -199,11 +199,11 @@ fn fixed_bytes(commands: Fixed, reply: Reply) -> Fixed
 // Writes the checksum of n bytes of flash behind ACK.
 fn say_sum(flash: &[u8], at: usize, n: usize, buffer: &mut [u8]) -> usize
     requires { ⌜ (at + n ≤ length (now flash)) × (replyRoom ≤ length (now buffer)) ⌝ }
-    ensures { λ r. ⌜ (r ≡ length (ackByte ∷ fourBytes (crc (part at n (now (flash .entry))))))
-        × (now (buffer .exit) ≡ put (now (buffer .entry)) 0 (ackByte ∷ fourBytes (crc (part at n (now (flash .entry)))))) ⌝ }
+    ensures { λ r. ⌜ (r ≡ length (ackByte ∷ fourBytes (wordCrc (part at n (now (flash .entry))))))
+        × (now (buffer .exit) ≡ put (now (buffer .entry)) 0 (ackByte ∷ fourBytes (wordCrc (part at n (now (flash .entry)))))) ⌝ }
 {
     let end = at + n;
-    say_crc(crc::crc(&flash[at..end]), buffer)
+    say_crc(word_crc::crc(&flash[at..end]), buffer)
 }
 
 // Writes the bytes of a reply that can be given, message behind message, and tells how many; what a carrier tells of its commands is given.

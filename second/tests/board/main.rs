@@ -1,4 +1,4 @@
-//! Tests of the second board; every expected value is taken from document 01.
+//! Tests of the second board; every expected value is taken from the documents or `expected/`.
 
 mod any_input;
 mod bench;
