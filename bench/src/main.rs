@@ -63,6 +63,8 @@ fn main() -> ExitCode {
         ["desks", first, second, folder, ..] => desks(first, second, folder, &words[4..]),
         ["calls"] => {
             calls::table();
+            println!();
+            calls::checksum_table();
             ExitCode::SUCCESS
         }
         ["images", first, second, folder] => images(first, second, folder, None),
