@@ -9,7 +9,7 @@ use Rattle.words.proofs.Tests.{both-left, both-right}
 use Rattle.board.specs.Board.{flash, sram, usd, extentOf}
 use Rattle.board.specs.Quantities.{offsetIn}
 use Rattle.board.specs.Regions.{holds, placeOf}
-use Rattle.constants.specs.declared.Address.{Address}
+use Rattle.board.specs.declared.Address.{Address}
 use Rattle.board.specs.declared.Place.{Place}
 use Rattle.board.specs.declared.Place.the-variants.{In, Nowhere}
 use Rattle.board.specs.declared.Region.{Region}

@@ -1,13 +1,14 @@
 -- A sector number, a byte address and a count sent as one less: separate quantities, each converted here and nowhere else.
 use Prim.Native.Nat.{ℕ, _+_, _-_, _*_, _/_, _%_}
 use mathlib.Core.Bool.{Bool}
-use mathlib.Core.List.{List, map}
-use lib.ListN.{take}
+use mathlib.Core.List.{List, [], _∷_, map}
+use lib.ListN.{take, getD}
 use lib.Dec.{eqb, ltb}
+use Rattle.words.specs.Bytes.{number}
 use Rattle.words.specs.Lists.{any, countFrom, pairs}
 use Rattle.board.specs.Board.{sectors}
-use Rattle.constants.specs.declared.Address.{Address}
-use Rattle.constants.specs.declared.Extent.{Extent}
+use Rattle.board.specs.declared.Address.{Address}
+use Rattle.board.specs.declared.Extent.{Extent}
 use Rattle.board.specs.declared.LessOne.{LessOne}
 use Rattle.board.specs.declared.Sector.{Sector}
 
@@ -44,9 +45,13 @@ longCountBytes = 2
 abbrev pub sector : ℕ → Sector
 sector k = record { 0 = k }
 
+-- the bytes of x whole sectors
+abbrev pub bytesIn : ℕ → ℕ
+bytesIn x = x * sectors .bytes
+
 -- the offset of a sector's first byte in flash
 abbrev pub startOf : Sector → ℕ
-startOf k = k .0 * sectors .bytes
+startOf k = bytesIn (k .0)
 
 -- the sector in which a byte of flash lies
 abbrev pub sectorAt : ℕ → Sector
@@ -55,10 +60,6 @@ sectorAt offset = sector (offset / sectors .bytes)
 -- a byte of flash is the first of its sector
 abbrev pub isStart : ℕ → Bool
 isStart offset = eqb (offset % sectors .bytes) 0
-
--- the bytes of x whole sectors
-abbrev pub bytesIn : ℕ → ℕ
-bytesIn x = x * sectors .bytes
 
 -- the number of a sector that the board has: 0 to 31
 abbrev pub isSector : Sector → Bool
@@ -76,7 +77,10 @@ sectorsFrom k n = map sector (countFrom (k .0) n)
 abbrev pub everySector : List Sector
 everySector = sectorsFrom (sector 0) (sectors .count)
 
--- the sectors that a list of one-byte indexes names, and the first x of them
+-- the sector whose one-byte index stands at a place, the sectors that a list of indexes names, and the first x of them
+abbrev pub indexedAt : List ℕ → ℕ → Sector
+indexedAt bytes at = sector (getD bytes at 0)
+
 abbrev pub indexed : List ℕ → List Sector
 indexed bytes = map sector bytes
 
@@ -87,7 +91,10 @@ firstIndexed x bytes = indexed (take x bytes)
 abbrev pub numbersBytes : ℕ → ℕ
 numbersBytes x = selectorBytes * x
 
--- the sectors that a list of two-byte numbers names, and the first x of them
+-- the sector whose two-byte number stands at a place, the sectors that a list of numbers names, and the first x of them
+abbrev pub numberedAt : List ℕ → ℕ → Sector
+numberedAt bytes at = sector (number (getD bytes at 0 ∷ getD bytes (at + 1) 0 ∷ []))
+
 abbrev pub numbered : List ℕ → List Sector
 numbered bytes = map sector (pairs bytes)
 

@@ -6,8 +6,8 @@ use lib.Dec.{leb}
 use Rattle.words.specs.Choice.{if_then_else_}
 use Rattle.board.specs.Board.{flash, sram, usd}
 use Rattle.board.specs.Quantities.{offsetIn, sectorAt, isStart, sectorsFrom}
-use Rattle.constants.specs.declared.Address.{Address}
-use Rattle.constants.specs.declared.Extent.{Extent}
+use Rattle.board.specs.declared.Address.{Address}
+use Rattle.board.specs.declared.Extent.{Extent}
 use Rattle.board.specs.declared.Place.{Place}
 use Rattle.board.specs.declared.Place.the-variants.{In, Nowhere}
 use Rattle.board.specs.declared.Region.the-variants.{Flash, Sram, Usd}

@@ -1,3 +1,5 @@
+// The board: its constants, its regions and sectors, and the view of user system data on which it decides.
+pub mod constants;
 pub mod held;
 pub mod quantities;
 pub mod range;
@@ -5,8 +7,40 @@ pub mod usd;
 
 ghost use mathlib.Core.Path.{_≡_};
 ghost use Rattle.board.specs.Board.{extentOf};
-use constants::Board;
-use constants::Extent;
+
+// The board, whose constants and constructors are in `constants`.
+pub struct Board;
+
+// A byte address.
+pub struct Address(pub u32);
+
+// A region's first address and its number of bytes.
+pub struct Extent {
+    pub first: Address,
+    pub bytes: usize,
+}
+
+// The sectors of the flash: how many, and how long each is.
+pub struct Sectors {
+    pub count: usize,
+    pub bytes: usize,
+}
+
+// The bytes of user system data that have a meaning.
+pub struct Layout {
+    pub protection: usize,
+    pub protection_off: u8,
+    pub sector_bits: usize,
+}
+
+// The values by which a host tells the board.
+pub struct Identity {
+    pub version: u8,
+    pub bid_first: u8,
+    pub bid_second: u8,
+    pub product: u32,
+    pub project: u8,
+}
 
 // A sector number.
 pub struct Sector(pub u16);
@@ -14,13 +48,10 @@ pub struct Sector(pub u16);
 // A count sent as one less.
 pub struct LessOne(pub u16);
 
-// How many bytes of user system data hold the sectors' bits.
-pub const BIT_BYTES: usize = Board::SECTORS / 8;
-
 // What the board may look at when it decides: whether protection is on, and the bytes that hold the sectors' bits.
 pub struct View {
     pub locked: bool,
-    pub bits: [u8; BIT_BYTES],
+    pub bits: [u8; Board::BIT_BYTES],
 }
 
 // The three regions.

@@ -1,12 +1,15 @@
+// The board's quantities, each converted here and nowhere else: sector numbers, byte addresses, counts sent as one less.
 ghost use mathlib.Core.Path.{_≡_};
-ghost use Prim.Native.Nat.{_≤_, _<_};
+ghost use Prim.Native.Nat.{_+_, _≤_, _<_};
+ghost use lib.ListN.{length};
 ghost use Rattle.board.specs.Board.{extentOf};
-ghost use Rattle.board.specs.Quantities.{largestCount, countOf, oneLess, startOf, sectorAt, offsetIn};
+ghost use Rattle.board.specs.Quantities.{largestCount, largestLongCount, countOf, oneLess, bytesIn};
+ghost use Rattle.board.specs.Quantities.{startOf, sectorAt, isSector, numberedAt, indexedAt, offsetIn};
+use crate::Address;
+use crate::Board;
 use crate::LessOne;
 use crate::Region;
 use crate::Sector;
-use constants::Address;
-use constants::Board;
 
 impl LessOne {
     // The largest count that one byte sends as one less.
@@ -28,12 +31,46 @@ impl LessOne {
     }
 }
 
+// The bytes of x whole sectors.
+pub fn bytes_in(x: usize) -> usize
+    requires { ⌜ x ≤ largestLongCount ⌝ }
+    ensures { λ r. ⌜ r ≡ bytesIn x ⌝ }
+{
+    x * Board::SECTOR_BYTES
+}
+
 impl Sector {
+    // How many bytes write a sector's number.
+    pub const NUMBER_BYTES: usize = 2;
+
+    // The sector whose two-byte number stands at a place.
+    pub fn numbered(bytes: &[u8], at: usize) -> Sector
+        requires { ⌜ at + 1 < length (now bytes) ⌝ }
+        ensures { λ r. ⌜ r ≡ numberedAt (now (bytes .entry)) at ⌝ }
+    {
+        Sector(words::number2(bytes[at], bytes[at + 1]))
+    }
+
+    // The sector whose one-byte index stands at a place.
+    pub fn indexed(bytes: &[u8], at: usize) -> Sector
+        requires { ⌜ at < length (now bytes) ⌝ }
+        ensures { λ r. ⌜ r ≡ indexedAt (now (bytes .entry)) at ⌝ }
+    {
+        Sector(bytes[at] as u16)
+    }
+
+    // Whether the board has the sector.
+    pub fn exists(self) -> bool
+        ensures { λ r. ⌜ r ≡ isSector self ⌝ }
+    {
+        (self.0 as usize) < Board::SECTORS
+    }
+
     // The offset of the sector's first byte in flash.
     pub fn start(self) -> usize
         ensures { λ r. ⌜ r ≡ startOf self ⌝ }
     {
-        self.0 as usize * Board::SECTOR_BYTES
+        bytes_in(self.0 as usize)
     }
 
     // The sector in which a byte of flash lies.

@@ -1,10 +1,11 @@
+// Where bytes lie: the region that holds them all, and their offset in it.
 ghost use mathlib.Core.Path.{_≡_};
 ghost use Rattle.board.specs.Board.{extentOf};
 ghost use Rattle.board.specs.Regions.{holds, placeOf, known, jumpable, sectorStart};
+use crate::Address;
+use crate::Board;
 use crate::Place;
 use crate::Region;
-use constants::Address;
-use constants::Board;
 
 impl Region {
     // Whether x bytes from an address all lie in the region.
@@ -14,14 +15,13 @@ impl Region {
         let extent = self.extent();
         let first = extent.first.0;
         let bytes = extent.bytes;
-        let this = address.0;
-        if this < first {
+        if address.0 < first {
             return false;
         }
         if bytes < x {
             return false;
         }
-        (this - first) as usize <= bytes - x
+        self.offset(address) <= bytes - x
     }
 }
 

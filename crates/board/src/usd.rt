@@ -1,3 +1,4 @@
+// What user system data says: protection, and one bit for each sector.
 ghost use mathlib.Core.Path.{_≡_};
 ghost use Prim.Native.Nat.{_+_, _≤_};
 ghost use lib.Dec.{T};
@@ -5,12 +6,13 @@ ghost use lib.ListN.{length};
 ghost use Rattle.words.specs.Lists.{any};
 ghost use Rattle.board.specs.Board.{extentOf, sectors};
 ghost use Rattle.board.specs.Quantities.{isSector, sectorsFrom};
-ghost use Rattle.board.specs.Usd.{protectionOn};
+ghost use Rattle.board.specs.Usd.{protectionOn, bitIndex, bitPlace};
 ghost use Rattle.board.specs.View.{viewOf, writeProtected};
 ghost use Rattle.board.specs.declared.Region.the-variants.{Usd};
+use crate::Board;
 use crate::Sector;
 use crate::View;
-use constants::Board;
+use words::BYTE_BITS;
 
 // Whether protection is on.
 pub fn protection_on(usd: &[u8]) -> bool
@@ -18,6 +20,22 @@ pub fn protection_on(usd: &[u8]) -> bool
     ensures { λ r. ⌜ r ≡ protectionOn (now (usd .entry)) ⌝ }
 {
     usd[Board::PROTECTION] != Board::PROTECTION_OFF
+}
+
+impl Sector {
+    // Which of the bytes that hold the sectors' bits holds this sector's.
+    pub fn bit_index(self) -> usize
+        ensures { λ r. ⌜ r ≡ bitIndex self ⌝ }
+    {
+        self.0 as usize / BYTE_BITS
+    }
+
+    // Which bit of that byte is this sector's.
+    pub fn bit_place(self) -> usize
+        ensures { λ r. ⌜ r ≡ bitPlace self ⌝ }
+    {
+        self.0 as usize % BYTE_BITS
+    }
 }
 
 impl View {
@@ -39,10 +57,9 @@ impl View {
         requires { ⌜ T (isSector sector) ⌝ }
         ensures { λ r. ⌜ r ≡ writeProtected self sector ⌝ }
     {
-        let k = sector.0;
         let bits = self.bits;
-        let byte = (k >> 3) as usize;
-        let bit = k & 7;
+        let byte = sector.bit_index();
+        let bit = sector.bit_place();
         (bits[byte] >> bit) & 1 == 0
     }
 

@@ -14,10 +14,10 @@ ghost use Rattle.boot.specs.Promise.{left, givenByte, givenFrame, accept
 use crate::Cause;
 use crate::Session;
 use crate::Taken;
+use board::Board;
 use board::View;
 use carriers::Carrier;
 use command::Decision;
-use constants::Board;
 
 // Whether flash, SRAM and USD have their lengths.
 pub fn lengths_right(flash: usize, sram: usize, usd: usize) -> bool

@@ -7,7 +7,7 @@ use lib.Dec.{eqb, leb}
 use Rattle.words.specs.Bytes.{number}
 use Rattle.board.specs.Board.{address, identity}
 use Rattle.board.specs.Quantities.{countOf, lessOne, oneLess, addressBytes, selectorBytes, longCountBytes}
-use Rattle.constants.specs.declared.Address.{Address}
+use Rattle.board.specs.declared.Address.{Address}
 use Rattle.board.specs.declared.View.{View}
 use Rattle.memories.specs.declared.Change.the-variants.{EraseAll}
 use Rattle.command.specs.Commands.{code, canCommands, lookUp}

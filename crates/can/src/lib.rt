@@ -12,13 +12,13 @@ ghost use Rattle.command.specs.declared.Why.the-variants.{BadRange, OtherFrame}
 ghost use Rattle.frames.specs.Frames.{classic};
 ghost use Rattle.can.specs.Steps.{stepNo, stepOf, expects};
 ghost use Rattle.can.specs.Conversation.{bears, canRoom};
+use board::Board;
 use board::LessOne;
 use command::Decision;
 use command::Next;
 use command::Reply;
 use command::Why;
 use command::code;
-use constants::Board;
 
 // The steps of the CAN conversation, idle first.
 pub enum Step {

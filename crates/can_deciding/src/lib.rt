@@ -13,11 +13,11 @@ ghost use Rattle.command.specs.Progress.{progressAt};
 ghost use Rattle.frames.specs.Frames.{classic, frameOf};
 ghost use Rattle.can.specs.Steps.{stepOf, expects, expectedForNumbers};
 ghost use Rattle.can.specs.Conversation.{decided};
+use board::Address;
 use board::View;
 use can::Step;
 use command::Decision;
 use command::code;
-use constants::Address;
 
 // A frame that comes while a write's data are gathered.
 fn write_frame(

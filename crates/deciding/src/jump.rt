@@ -1,10 +1,10 @@
 ghost use mathlib.Core.Path.{_≡_};
 ghost use Rattle.rules.specs.Rules.{jumping};
+use board::Address;
 use command::Decision;
 use command::Next;
 use command::Reply;
 use command::Why;
-use constants::Address;
 
 // A jump to an address in flash or SRAM.
 pub fn jump(address: Address) -> Decision

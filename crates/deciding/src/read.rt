@@ -1,11 +1,11 @@
 ghost use mathlib.Core.Path.{_≡_};
 ghost use Rattle.rules.specs.Rules.{readAt, reading};
+use board::Address;
 use board::Place;
 use command::Decision;
 use command::Next;
 use command::Reply;
 use command::Why;
-use constants::Address;
 
 // A read of x bytes at their place.
 fn read_at(place: Place, x: usize) -> Decision

@@ -5,8 +5,8 @@ ghost use lib.ListN.{length, take};
 ghost use Rattle.words.specs.Bytes.{number};
 ghost use Rattle.board.specs.Board.{address};
 ghost use Rattle.board.specs.Quantities.{addressBytes, countOf, largestCount, largestLongCount, lessOne};
+use board::Address;
 use board::LessOne;
-use constants::Address;
 
 // An address is sent in so many bytes.
 pub const ADDRESS_BYTES: usize = 4;

@@ -1,15 +1,15 @@
+// 0xAC: the checksum of whole sectors of flash.
 ghost use mathlib.Core.Path.{_≡_};
 ghost use Prim.Native.Nat.{_≤_};
 ghost use Rattle.board.specs.Quantities.{largestLongCount};
 ghost use Rattle.rules.specs.Rules.{sumAt, summing};
+use board::Address;
 use board::Place;
 use board::Region;
 use command::Decision;
 use command::Next;
 use command::Reply;
 use command::Why;
-use constants::Address;
-use constants::Board;
 
 // The checksum of n bytes at their place, which has to be in flash.
 fn sum_at(place: Place, n: usize) -> Decision
@@ -29,7 +29,7 @@ pub fn sum(address: Address, x: usize) -> Decision
     requires { ⌜ x ≤ largestLongCount ⌝ }
     ensures { λ r. ⌜ r ≡ summing address x ⌝ }
 {
-    let n = x * Board::SECTOR_BYTES;
+    let n = board::quantities::bytes_in(x);
     command::accept_if(
         board::range::sector_start(address),
         sum_at(board::range::place(address, n), n),

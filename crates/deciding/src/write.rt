@@ -7,6 +7,8 @@ ghost use Rattle.board.specs.Regions.{touched};
 ghost use Rattle.board.specs.View.{viewOf, writeProtected};
 ghost use Rattle.board.specs.declared.Region.the-variants.{Flash, Usd};
 ghost use Rattle.rules.specs.Rules.{writeVerdictAt, writeVerdict, afterWrite, writeAt, writing};
+use board::Address;
+use board::Board;
 use board::Place;
 use board::Region;
 use board::Sector;
@@ -16,8 +18,6 @@ use command::Next;
 use command::Reply;
 use command::Verdict;
 use command::Why;
-use constants::Address;
-use constants::Board;
 use memories::Change;
 
 // Whether x bytes of flash from an offset on touch a write-protected sector.

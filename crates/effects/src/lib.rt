@@ -1,20 +1,21 @@
+// Carries a change of the memories out.
 ghost use mathlib.Core.Path.{_≡_};
 ghost use mathlib.Core.List.{[]};
-ghost use Prim.Native.Nat.{_+_, _*_, _≤_};
+ghost use Prim.Native.Nat.{_+_, _≤_};
 ghost use lib.Dec.{T};
 ghost use lib.ListN.{length, take, replicate};
 ghost use Rattle.words.specs.Lists.{all};
 ghost use Rattle.words.specs.Over.{put};
 ghost use Rattle.board.specs.Board.{extentOf, sectors};
-ghost use Rattle.board.specs.Quantities.{largestCount, startOf, isSector, firstIndexed, firstNumbered};
+ghost use Rattle.board.specs.Quantities.{largestCount, startOf, isSector, numbersBytes, firstIndexed, firstNumbered};
 ghost use Rattle.board.specs.declared.Region.the-variants.{Flash, Usd};
 ghost use Rattle.memories.specs.Lent.{held, were, are};
 ghost use Rattle.memories.specs.Memories.{proper};
 ghost use Rattle.memories.specs.Protection.{released, alsoProtected, onlyProtected, locked};
 ghost use Rattle.memories.specs.Effects.{blank, erased, written, effect, fits};
+use board::Board;
 use board::Region;
 use board::Sector;
-use constants::Board;
 use memories::Change;
 use memories::ERASED;
 use memories::STAGED;
@@ -58,16 +59,15 @@ fn erase_sector(flash: &mut [u8], sector: Sector)
 
 // Erases the x sectors whose two-byte numbers are staged.
 fn erase_sectors(flash: &mut [u8], staged: &[u8], x: usize)
-    requires { ⌜ (length (now flash) ≡ extentOf Flash .bytes) × (x ≤ sectors .count) × (2 * x ≤ length (now staged))
+    requires { ⌜ (length (now flash) ≡ extentOf Flash .bytes) × (x ≤ sectors .count) × (numbersBytes x ≤ length (now staged))
         × T (all isSector (firstNumbered x (now staged))) ⌝ }
     ensures { λ _. ⌜ now (flash .exit) ≡ erased (now (flash .entry)) (firstNumbered x (now (staged .entry))) ⌝ }
 {
-    let end = 2 * x;
+    let end = Sector::NUMBER_BYTES * x;
     let mut j = 0;
     while j < end {
-        let k = words::number2(staged[j], staged[j + 1]);
-        erase_sector(flash, Sector(k));
-        j += 2;
+        erase_sector(flash, Sector::numbered(staged, j));
+        j += Sector::NUMBER_BYTES;
     }
 }
 
@@ -84,7 +84,7 @@ fn release(usd: &mut [u8])
     requires { ⌜ length (now usd) ≡ extentOf Usd .bytes ⌝ }
     ensures { λ _. ⌜ now (usd .exit) ≡ released (now (usd .entry)) ⌝ }
 {
-    words::fill(usd, Board::SECTOR_BITS, Board::SECTORS / 8, RELEASED);
+    words::fill(usd, Board::SECTOR_BITS, Board::BIT_BYTES, RELEASED);
 }
 
 // Protects one sector too.
@@ -92,9 +92,8 @@ fn protect_also(usd: &mut [u8], sector: Sector)
     requires { ⌜ (length (now usd) ≡ extentOf Usd .bytes) × T (isSector sector) ⌝ }
     ensures { λ _. ⌜ now (usd .exit) ≡ alsoProtected (now (usd .entry)) sector ⌝ }
 {
-    let k = sector.0;
-    let byte = Board::SECTOR_BITS + (k >> 3) as usize;
-    let bit = k & 7;
+    let byte = Board::SECTOR_BITS + sector.bit_index();
+    let bit = sector.bit_place();
     usd[byte] = usd[byte] & !(1u8 << bit);
 }
 
@@ -106,7 +105,7 @@ fn protect_only(usd: &mut [u8], staged: &[u8], x: usize)
     release(usd);
     let mut i = 0;
     while i < x {
-        protect_also(usd, Sector(staged[i] as u16));
+        protect_also(usd, Sector::indexed(staged, i));
         i += 1;
     }
 }

@@ -6,7 +6,7 @@ ghost use Rattle.io.specs.Counts.{Counts};
 ghost use Rattle.board.specs.Board.{flash};
 use crate::files;
 use crate::files::Got;
-use constants::Board;
+use board::Board;
 use libc::STDERR_FILENO;
 use libc::STDOUT_FILENO;
 

@@ -1,11 +1,13 @@
+// Erase: what its selector asks for, and whether the listed sectors, or all of flash, may be erased.
 ghost use mathlib.Core.Path.{_≡_};
-ghost use Prim.Native.Nat.{_*_, _≤_};
+ghost use Prim.Native.Nat.{_≤_};
 ghost use lib.Dec.{T};
 ghost use lib.ListN.{length};
 ghost use Rattle.words.specs.Lists.{any, all};
-ghost use Rattle.board.specs.Quantities.{isSector, firstNumbered};
+ghost use Rattle.board.specs.Quantities.{isSector, numbersBytes, firstNumbered};
 ghost use Rattle.board.specs.View.{writeProtected};
 ghost use Rattle.rules.specs.Rules.{selectorOf, eraseVerdict, erasing, eraseAllVerdict};
+use board::Board;
 use board::LessOne;
 use board::Sector;
 use board::View;
@@ -14,7 +16,6 @@ use command::Next;
 use command::Reply;
 use command::Verdict;
 use command::Why;
-use constants::Board;
 use memories::Change;
 use rules::Selector;
 
@@ -45,41 +46,42 @@ pub fn selector_of(number: u16) -> Selector
 
 // Whether the x staged two-byte numbers are all sectors of the board.
 fn all_numbered(staged: &[u8], x: usize) -> bool
-    requires { ⌜ 2 * x ≤ length (now staged) ⌝ }
+    requires { ⌜ numbersBytes x ≤ length (now staged) ⌝ }
     ensures { λ r. ⌜ r ≡ all isSector (firstNumbered x (now (staged .entry))) ⌝ }
 {
-    let end = 2 * x;
+    let end = Sector::NUMBER_BYTES * x;
     let mut j = 0;
     while j < end {
-        let k = words::number2(staged[j], staged[j + 1]);
-        if Board::SECTORS as u16 <= k {
+        let sector = Sector::numbered(staged, j);
+        let here = sector.exists();
+        if !here {
             return false;
         }
-        j += 2;
+        j += Sector::NUMBER_BYTES;
     }
     true
 }
 
 // Whether one of the x staged two-byte numbers names a write-protected sector.
 fn any_numbered_protected(view: View, staged: &[u8], x: usize) -> bool
-    requires { ⌜ (2 * x ≤ length (now staged)) × T (all isSector (firstNumbered x (now staged))) ⌝ }
+    requires { ⌜ (numbersBytes x ≤ length (now staged)) × T (all isSector (firstNumbered x (now staged))) ⌝ }
     ensures { λ r. ⌜ r ≡ any (writeProtected view) (firstNumbered x (now (staged .entry))) ⌝ }
 {
-    let end = 2 * x;
+    let end = Sector::NUMBER_BYTES * x;
     let mut j = 0;
     while j < end {
-        let k = words::number2(staged[j], staged[j + 1]);
-        if view.write_protected(Sector(k)) {
+        let sector = Sector::numbered(staged, j);
+        if view.write_protected(sector) {
             return true;
         }
-        j += 2;
+        j += Sector::NUMBER_BYTES;
     }
     false
 }
 
 // Whether the x sectors whose numbers are staged may be erased.
 fn erase_verdict(view: View, staged: &[u8], x: usize) -> Verdict
-    requires { ⌜ 2 * x ≤ length (now staged) ⌝ }
+    requires { ⌜ numbersBytes x ≤ length (now staged) ⌝ }
     ensures { λ r. ⌜ r ≡ eraseVerdict view (firstNumbered x (now (staged .entry))) ⌝ }
 {
     let sectors = all_numbered(staged, x);
@@ -96,7 +98,7 @@ fn erase_verdict(view: View, staged: &[u8], x: usize) -> Verdict
 
 // An erase of the x sectors whose numbers are staged, or of none.
 pub fn erase(view: View, staged: &[u8], x: usize) -> Decision
-    requires { ⌜ 2 * x ≤ length (now staged) ⌝ }
+    requires { ⌜ numbersBytes x ≤ length (now staged) ⌝ }
     ensures { λ r. ⌜ r ≡ erasing view (now (staged .entry)) x ⌝ }
 {
     command::judged(

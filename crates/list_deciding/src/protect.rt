@@ -1,14 +1,15 @@
+// Program Protect: whether the listed sectors are sectors of the board.
 ghost use mathlib.Core.Path.{_≡_};
 ghost use Prim.Native.Nat.{_≤_};
 ghost use lib.ListN.{length};
 ghost use Rattle.words.specs.Lists.{all};
 ghost use Rattle.board.specs.Quantities.{isSector, firstIndexed};
 ghost use Rattle.rules.specs.Rules.{protecting};
+use board::Sector;
 use command::Decision;
 use command::Next;
 use command::Reply;
 use command::Why;
-use constants::Board;
 use memories::Change;
 
 // Whether the x staged indexes are all sectors of the board.
@@ -18,7 +19,9 @@ fn all_indexed(staged: &[u8], x: usize) -> bool
 {
     let mut i = 0;
     while i < x {
-        if Board::SECTORS as u8 <= staged[i] {
+        let sector = Sector::indexed(staged, i);
+        let here = sector.exists();
+        if !here {
             return false;
         }
         i += 1;

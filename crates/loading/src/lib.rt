@@ -12,7 +12,7 @@ ghost use Rattle.board.specs.Board.{flash};
 ghost use Rattle.records.specs.Ends.{linesOf};
 ghost use Rattle.loading.specs.Promise.{Loads};
 ghost use Rattle.loading.specs.Loads.{causeNo, accepts, untouched, allTouched};
-use constants::Board;
+use board::Board;
 
 // Where a line's data go.
 pub enum Place {

@@ -5,7 +5,7 @@ ghost use mir.Syntax.{w64};
 ghost use mir.Val.{SFits};
 ghost use Rattle.loading.specs.Places.{isData, placeAt, placeOf};
 use crate::Place;
-use constants::Board;
+use board::Board;
 use records::Kind;
 use records::Line;
 

@@ -16,10 +16,10 @@ ghost use Rattle.memories.specs.Lent.{held, were};
 ghost use Rattle.memories.specs.Memories.{Memories, proper, bytesOf};
 ghost use Rattle.command.specs.Says.{replyRoom, ackByte, says, sayable, fixed, Said};
 ghost use Rattle.reply.specs.Fixed.{fixedRoom, listing, Holds, Lists};
+use board::Board;
 use board::Region;
 use command::Reply;
 use command::code;
-use constants::Board;
 
 // A fixed reply: bytes, of which the first few are the reply, and how many these are.
 pub struct Fixed {

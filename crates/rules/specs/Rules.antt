@@ -9,7 +9,7 @@ use Rattle.board.specs.Board as B
 use Rattle.board.specs.Quantities.{countOf, lessOne, bytesIn, isSector, everySector, firstIndexed, firstNumbered}
 use Rattle.board.specs.Regions.{placeOf, known, jumpable, sectorStart, touched}
 use Rattle.board.specs.View.{writeProtected}
-use Rattle.constants.specs.declared.Address.{Address}
+use Rattle.board.specs.declared.Address.{Address}
 use Rattle.board.specs.declared.Place.{Place}
 use Rattle.board.specs.declared.Place.the-variants.{In, Nowhere}
 use Rattle.board.specs.declared.Region.{Region}

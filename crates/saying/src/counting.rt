@@ -9,7 +9,7 @@ ghost use Rattle.loading.specs.Loads.{mark};
 ghost use Rattle.saying.specs.Tally.{howMany, inSector, tallyOf};
 ghost use Rattle.saying.specs.Tally.{one as Tally·one};
 use crate::Tally;
-use constants::Board;
+use board::Board;
 use loading::judging;
 
 // One where a test is passed.

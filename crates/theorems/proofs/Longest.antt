@@ -18,7 +18,7 @@ use Rattle.board.specs.declared.Place.{Place}
 use Rattle.board.specs.declared.Place.the-variants.{In, Nowhere}
 use Rattle.board.specs.declared.Region.the-variants.{Flash, Sram, Usd}
 use Rattle.board.specs.declared.View.{View}
-use Rattle.constants.specs.declared.Address.{Address}
+use Rattle.board.specs.declared.Address.{Address}
 use Rattle.memories.specs.Memories.{Memories}
 use Rattle.command.specs.Decision.{answer, nack}
 use Rattle.command.specs.Says.{says}

@@ -7,7 +7,7 @@ use Prim.Native.Nat.{ℕ}
 use lib.Dec.{T, eqb, eqb→eq, eqb-refl}
 use lib.ListN.{getD}
 use Rattle.words.specs.Choice.{if_then_else_}
-use Rattle.constants.specs.declared.Address.{Address}
+use Rattle.board.specs.declared.Address.{Address}
 use Rattle.board.specs.declared.Place.{Place}
 use Rattle.board.specs.declared.Place.the-variants.{In, Nowhere}
 use Rattle.board.specs.declared.Region.{Region}

@@ -9,7 +9,7 @@ use lib.Dec.{T, T-not, eqb, eqb→eq}
 use lib.ListN.{take, drop}
 use Rattle.words.specs.Choice.{if_then_else_}
 use Rattle.words.proofs.Tests.{both-left, both-right, holds-true}
-use Rattle.constants.specs.declared.Address.{Address}
+use Rattle.board.specs.declared.Address.{Address}
 use Rattle.board.specs.declared.View.{View}
 use Rattle.memories.specs.Memories.{Memories}
 use Rattle.command.specs.Commands.{canCommands, lookUp}

@@ -13,7 +13,7 @@ use Rattle.words.specs.Over.{within}
 use Rattle.words.proofs.Tests.{both-left, both-right, holds-true, fails-false}
 use Rattle.board.specs.Board as B
 use Rattle.board.specs.Regions.{placeOf}
-use Rattle.constants.specs.declared.Address.{Address}
+use Rattle.board.specs.declared.Address.{Address}
 use Rattle.board.specs.declared.Place.{Place}
 use Rattle.board.specs.declared.Place.the-variants.{In, Nowhere}
 use Rattle.board.specs.declared.Region.{Region}

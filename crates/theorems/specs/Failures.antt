@@ -12,7 +12,7 @@ use Rattle.board.specs.Quantities.{isSector, named, firstIndexed, firstNumbered
 use Rattle.board.specs.Regions.{placeOf}
 use Rattle.board.specs.Usd.{besideBits, protectionOn}
 use Rattle.board.specs.View.{viewOf, writeProtected}
-use Rattle.constants.specs.declared.Address.{Address}
+use Rattle.board.specs.declared.Address.{Address}
 use Rattle.board.specs.declared.Place.{Place}
 use Rattle.board.specs.declared.Place.the-variants.{In, Nowhere}
 use Rattle.board.specs.declared.Sector.{Sector}

@@ -9,7 +9,7 @@ use Rattle.board.specs.Board.{address, identity}
 use Rattle.board.specs.Quantities.{countOf, lessOne, oneLess, addressBytes, selectorBytes, longCountBytes, numbersBytes}
 use Rattle.command.specs.Says.{replyRoom}
 use Rattle.board.specs.Regions.{known, sectorStart}
-use Rattle.constants.specs.declared.Address.{Address}
+use Rattle.board.specs.declared.Address.{Address}
 use Rattle.board.specs.declared.View.{View}
 use Rattle.memories.specs.declared.Change.the-variants.{EraseAll}
 use Rattle.command.specs.Commands.{code, uartCommands, lookUp}

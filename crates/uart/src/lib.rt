@@ -4,8 +4,8 @@ ghost use mathlib.Core.Path.{_≡_};
 ghost use lib.Dec.{leb};
 ghost use Rattle.uart.specs.Steps.{stepNo, stepOf, expects};
 ghost use Rattle.uart.specs.Conversation.{uartRoom};
+use board::Board;
 use board::LessOne;
-use constants::Board;
 
 // The steps of the UART conversation, idle first.
 pub enum Step {

@@ -10,11 +10,11 @@ ghost use Rattle.command.specs.declared.Why.the-variants.{BadAddress, BadChecks
 ghost use Rattle.rules.specs.Rules.{jumping};
 ghost use Rattle.uart.specs.Steps.{stepNo};
 ghost use Rattle.uart.specs.Conversation.{checks, addressed, keptIf};
+use board::Address;
 use command::Decision;
 use command::Next;
 use command::Reply;
 use command::Why;
-use constants::Address;
 use deciding::sent;
 use uart::Step;
 

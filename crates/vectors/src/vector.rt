@@ -2,8 +2,8 @@ ghost use Prim.Native.Nat.{_+_, _≤_};
 ghost use Rattle.io.specs.Counts.{Counts};
 ghost use Rattle.numbers.specs.Numbers.{shortBytes};
 ghost use Rattle.vectors.specs.Sizes.{vectorBytes};
+use board::Board;
 use boot::Session;
-use constants::Board;
 use numbers::SHORT;
 
 // How many bytes a vector has, and where its parts stand.

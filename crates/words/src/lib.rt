@@ -7,6 +7,9 @@ ghost use lib.Bits.{bitAnd};
 ghost use Rattle.words.specs.Bytes.{complement, number, xorFrom};
 ghost use Rattle.words.specs.Over.{over, put};
 
+// How many bits a byte has.
+pub const BYTE_BITS: usize = 8;
+
 // The character between bytes in hex.
 pub const SPACE: u8 = b' ';
 

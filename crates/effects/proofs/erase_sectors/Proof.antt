@@ -1,5 +1,4 @@
 -- Before each turn, erasing the sectors that are left gives what erasing all of them gives, and they are sectors of the board.
-use borrow.Author.Needs.{needs}
 use native.Mathlib.Omega.{arith}
 use mathlib.Core.Path.{_≡_, refl, sym, _∙_, subst}
 use Prim.Native.Nat.{_≤_, _-_, _*_, _+_, _%_}
@@ -8,7 +7,7 @@ use lib.Seq.{slice, slice-empty}
 use lib.Dec.{T}
 use Rattle.words.specs.Lists.{all}
 use Rattle.words.proofs.Tests.{both-left, both-right}
-use Rattle.board.specs.Quantities.{sector, isSector, numbered}
+use Rattle.board.specs.Quantities.{isSector, numberedAt, numbered}
 use Rattle.memories.specs.Effects.{erased}
 use Rattle.effects.proofs.Lists.{all-numbered, erased-numbered}
 use Rattle.effects.proofs.erase_sectors.Statement.{statement}
@@ -27,33 +26,33 @@ abbrev μ-loop : tie.MeasureT-loop
 
 erase-sector-requires : tie.Need-erase-sector-requires Inv-loop μ-loop
 erase-sector-requires c κs =
-    let after-number2 = c .before in
-    let at-loop = after-number2 .before .before .before .before in
+    let at-loop = c .before .before .before in
     let start = at-loop .before .before .before in
     let s = start .args .staged .now in
     let m = 2 * start .args .x in
     let j = at-loop .loop .j in
-    let k = after-number2 .number2 .result in
-    let st = all-numbered s j m k (after-number2 .number2 .ensures) (omega arith) (omega arith) in
-    (omega arith, both-left (isSector (sector k)) (all isSector (numbered (slice (j + 2) m s))) (subst T st (at-loop .loop .inv .3)))
+    let st = all-numbered s j m (omega arith) (omega arith) in (
+      omega arith,
+      rw (c .numbered .ensures) (both-left (isSector (numberedAt s j)) (all isSector (numbered (slice (j + 2) m s)))
+          (subst T st (at-loop .loop .inv .3))),
+    )
 
 loop-again : tie.Need-loop-again Inv-loop μ-loop
 loop-again c =
     let after-erase-sector = c .before .before in
-    let after-number2 = after-erase-sector .before .before in
-    let at-loop = after-number2 .before .before .before .before in
+    let after-numbered = after-erase-sector .before in
+    let at-loop = after-numbered .before .before .before in
     let start = at-loop .before .before .before in
     let s = start .args .staged .now in
     let m = 2 * start .args .x in
     let j = at-loop .loop .j in
-    let k = after-number2 .number2 .result in
-    let st = all-numbered s j m k (after-number2 .number2 .ensures) (omega arith) (omega arith) in
-    let er = erased-numbered s j m k (after-number2 .number2 .ensures) (omega arith) (omega arith) (at-loop .loop .flash) in (
+    let st = all-numbered s j m (omega arith) (omega arith) in
+    let er = erased-numbered s j m (omega arith) (omega arith) (at-loop .loop .flash) in (
       omega arith,
       omega arith,
       omega arith,
-      both-right (isSector (sector k)) (all isSector (numbered (slice (j + 2) m s))) (subst T st (at-loop .loop .inv .3)),
-      rw (after-erase-sector .erase-sector .ensures) (sym er ∙ at-loop .loop .inv .4),
+      both-right (isSector (numberedAt s j)) (all isSector (numbered (slice (j + 2) m s))) (subst T st (at-loop .loop .inv .3)),
+      rw (after-erase-sector .erase-sector .ensures, after-numbered .numbered .ensures) (sym er ∙ at-loop .loop .inv .4),
     )
 
 returns : tie.Need-returns Inv-loop μ-loop
@@ -71,10 +70,7 @@ erase-sectors-spec =
     μ-loop
     (λ c. omega arith)
     (λ c. (omega arith, refl, refl, c .before .before .pre .3, refl))
-    (λ c. omega arith)
-    (λ c. omega arith)
-    (λ c. omega arith)
-    (λ c κs. search needs)
+    (λ c κs. omega arith)
     erase-sector-requires
     (λ c. omega arith)
     (λ c. omega arith)

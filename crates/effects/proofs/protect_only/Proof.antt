@@ -3,12 +3,12 @@ use borrow.Author.Needs.{needs}
 use native.Mathlib.Omega.{arith}
 use mathlib.Core.Path.{_≡_, refl, sym, _∙_, subst}
 use Prim.Native.Nat.{_≤_, _-_, _+_}
-use lib.ListN.{length, getD, take}
+use lib.ListN.{length, take}
 use lib.Seq.{slice, slice-empty}
 use lib.Dec.{T}
 use Rattle.words.specs.Lists.{all}
 use Rattle.words.proofs.Tests.{both-left, both-right}
-use Rattle.board.specs.Quantities.{sector, isSector, indexed}
+use Rattle.board.specs.Quantities.{isSector, indexedAt, indexed}
 use Rattle.memories.specs.Protection.{allProtected, onlyProtected}
 use Rattle.effects.proofs.Lists.{all-indexed, protected-indexed}
 use Rattle.effects.proofs.protect_only.Statement.{statement}
@@ -24,13 +24,8 @@ Inv-loop usd₀ staged x i₀ usd i =
 abbrev μ-loop : tie.MeasureT-loop
 μ-loop usd₀ staged x i₀ usd i = x - i
 
-cast-t14 : tie.Need-cast-t14 Inv-loop μ-loop
-cast-t14 c =
-    let at-loop = c .before .before .before in
-    let after-shared-slice-known = at-loop .before .before .before .before .before in
-    omega (arith, after-shared-slice-known .shared-slice-known .given (at-loop .loop .i))
-
 protect-also-requires : tie.Need-protect-also-requires Inv-loop μ-loop
+unfolding onlyProtected
 protect-also-requires c κs =
     let at-loop = c .before .before .before in
     let start = at-loop .before .before .before .before .before .before .before in
@@ -38,24 +33,26 @@ protect-also-requires c κs =
     let n = start .args .x in
     let i = at-loop .loop .i in (
       omega arith,
-      both-left (isSector (sector (getD s i 0))) (all isSector (indexed (slice (i + 1) n s)))
-          (subst T (all-indexed s i n (omega arith) (omega arith)) (at-loop .loop .inv .2)),
+      rw (c .indexed .ensures) (both-left (isSector (indexedAt s i)) (all isSector (indexed (slice (i + 1) n s)))
+          (subst T (all-indexed s i n (omega arith) (omega arith)) (at-loop .loop .inv .2))),
     )
 
 loop-again : tie.Need-loop-again Inv-loop μ-loop
+unfolding onlyProtected
 loop-again c =
     let after-protect-also = c .before .before in
-    let at-loop = after-protect-also .before .before .before .before in
+    let after-indexed = after-protect-also .before in
+    let at-loop = after-indexed .before .before .before in
     let start = at-loop .before .before .before .before .before .before .before in
     let s = start .args .staged .now in
     let n = start .args .x in
     let i = at-loop .loop .i in (
       omega arith,
       omega arith,
-      both-right (isSector (sector (getD s i 0))) (all isSector (indexed (slice (i + 1) n s)))
+      both-right (isSector (indexedAt s i)) (all isSector (indexed (slice (i + 1) n s)))
           (subst T (all-indexed s i n (omega arith) (omega arith)) (at-loop .loop .inv .2)),
-      rw (after-protect-also .protect-also .ensures) (sym (protected-indexed s i n (omega arith) (omega arith) (at-loop .loop .usd)) ∙
-          at-loop .loop .inv .3),
+      rw (after-protect-also .protect-also .ensures, after-indexed .indexed .ensures)
+          (sym (protected-indexed s i n (omega arith) (omega arith) (at-loop .loop .usd)) ∙ at-loop .loop .inv .3),
     )
 
 returns : tie.Need-returns Inv-loop μ-loop
@@ -68,6 +65,7 @@ returns c =
     rw (← after-release .release .ensures) (rw (e, slice-empty) at (at-loop .loop .inv .3))
 
 pub protect-only-spec : {M : Type 1} → statement M
+unfolding onlyProtected
 protect-only-spec =
     tie.close
     (tie.spec
@@ -75,8 +73,7 @@ protect-only-spec =
     μ-loop
     (λ c κs. search needs)
     (λ c. (omega arith, refl, c .before .before .before .before .before .before .pre .2, refl))
-    (λ c. omega arith)
-    cast-t14
+    (λ c κs. omega arith)
     protect-also-requires
     (λ c. omega arith)
     (λ c. omega arith)

@@ -1,7 +1,5 @@
--- Each region's constructor answers the constants that the definition cites, field by field.
+-- Each region's constructor answers its extent.
 use borrow.Author.Needs.{needs}
-use Rattle.board.specs.Board.{flash, sram, usd}
-use Rattle.board.proofs.Extents.{by-fields}
 use Rattle.board.proofs.Region.extent.Statement.{statement}
 use Rattle.board.proofs.Region.extent.Tie as tie
 
@@ -15,6 +13,6 @@ extent-spec =
     (λ c κs. search needs)
     (λ c. search needs)
     (λ c κs. search needs)
-    (λ c. rw (c .before .enum-told .given .1, by-fields (c .flash .result) flash (c .flash .ensures .0) (c .flash .ensures .1)))
-    (λ c. rw (c .before .enum-told2 .given .1, by-fields (c .sram .result) sram (c .sram .ensures .0) (c .sram .ensures .1)))
-    (λ c. rw (c .before .enum-told3 .given .1, by-fields (c .usd .result) usd (c .usd .ensures .0) (c .usd .ensures .1))))
+    (λ c. rw (c .before .enum-told .given .1, c .flash .ensures))
+    (λ c. rw (c .before .enum-told2 .given .1, c .sram .ensures))
+    (λ c. rw (c .before .enum-told3 .given .1, c .usd .ensures)))

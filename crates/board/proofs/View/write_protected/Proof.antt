@@ -12,8 +12,9 @@ unfolding writeProtected
 write-protected-spec =
     tie.close
     (tie.spec
+    (λ c κs. search needs)
+    (λ c κs. search needs)
+    (λ c. let h = ltb→lt (c .before .before .before .args .sector .0) 32 (c .before .before .before .pre) in omega arith)
     (λ c. search needs)
-    (λ c. let h = ltb→lt (c .before .args .sector .0) 32 (c .before .pre) in omega arith)
-    (λ c. omega (arith, and-mask (c .before .args .sector .0) 3))
-    (λ c. omega (arith, and-mask (c .before .args .sector .0) 3))
-    (λ c. rw (and-mask (c .before .args .sector .0) 3, and-mask _ 1)))
+    (λ c. search needs)
+    (λ c. rw (← c .before .bit-index .ensures, ← c .bit-place .ensures, and-mask _ 1)))

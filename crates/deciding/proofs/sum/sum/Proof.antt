@@ -10,13 +10,20 @@ returns c =
     let after-sum-at = c .before in
     let after-place = after-sum-at .before in
     let after-sector-start = after-place .before in
-    rw (← after-sector-start .sector-start .ensures, ← after-place .place .ensures, ← after-sum-at .sum-at .ensures) (c .accept-if .ensures)
+    let after-bytes-in = after-sector-start .before in
+    rw (
+      ← after-bytes-in .bytes-in .ensures,
+      ← after-sector-start .sector-start .ensures,
+      ← after-place .place .ensures,
+      ← after-sum-at .sum-at .ensures,
+    ) (c .accept-if .ensures)
 
 pub sum-spec : {M : Type 1} → statement M
+unfolding summing
 sum-spec =
     tie.close
     (tie.spec
-    (λ c. search needs)
+    (λ c κs. search needs)
     (λ c κs. search needs)
     (λ c κs. search needs)
     (λ c κs. search needs)

@@ -1,11 +1,11 @@
 -- Before each turn the numbers that are left give the same answer as all of them.
 use borrow.Author.Needs.{needs}
 use native.Mathlib.Omega.{arith}
-use mathlib.Core.Path.{_≡_, refl}
+use borrow.Author.Tests.{not-true, not-false}
+use mathlib.Core.Path.{_≡_, refl, sym, ap, _∙_}
 use Prim.Native.Nat.{_≤_, _-_, _*_, _%_}
 use lib.ListN.{take}
 use lib.Seq.{slice, slice-empty}
-use borrow.Author.Tests.{lt-ltb, le-ltb}
 use Rattle.words.specs.Lists.{all}
 use Rattle.board.specs.Quantities.{isSector, numbered}
 use Rattle.board.proofs.InOrder.{numbered-first}
@@ -23,28 +23,30 @@ abbrev μ-loop : tie.MeasureT-loop
 
 returns : tie.Need-returns Inv-loop μ-loop
 returns c =
-    let after-number2 = c .before in
-    let at-loop = after-number2 .before .before .before .before in
+    let after-exists = c .before in
+    let after-numbered = after-exists .before in
+    let at-loop = after-numbered .before .before in
     let start = at-loop .before .before in
     rw (
       ← at-loop .loop .inv .2,
-      numbered-first (start .args .staged .now) (at-loop .loop .j) (2 * start .args .x)
-          (after-number2 .number2 .result) (after-number2 .number2 .ensures) (omega arith) (omega arith),
-      le-ltb (after-number2 .number2 .result) 32 (c .if1 .taken),
+      numbered-first (start .args .staged .now) (at-loop .loop .j) (2 * start .args .x) (omega arith)
+          (omega arith),
+      ap isSector (sym (after-numbered .numbered .ensures)) ∙ sym (after-exists .exists .ensures) ∙ not-true _ (c .if1 .taken),
     )
 
 loop-again : tie.Need-loop-again Inv-loop μ-loop
 loop-again c =
-    let after-number2 = c .before in
-    let at-loop = after-number2 .before .before .before .before in
+    let after-exists = c .before in
+    let after-numbered = after-exists .before in
+    let at-loop = after-numbered .before .before in
     let start = at-loop .before .before in (
       omega arith,
       omega arith,
       rw (
-        numbered-first (start .args .staged .now) (at-loop .loop .j) (2 * start .args .x) (after-number2 .number2 .result)
-            (after-number2 .number2 .ensures) (omega arith) (omega arith),
-        lt-ltb (after-number2 .number2 .result) 32 (c .if1 .left),
-      ) at (at-loop .loop .inv .2),
+        numbered-first (start .args .staged .now) (at-loop .loop .j) (2 * start .args .x) (omega arith) (omega arith),
+        ap isSector (sym (after-numbered .numbered .ensures)) ∙ sym (after-exists .exists .ensures) ∙ not-false _ (c .if1 .left),
+      ) at
+          (at-loop .loop .inv .2),
     )
 
 returns-2 : tie.Need-returns-2 Inv-loop μ-loop
@@ -62,11 +64,8 @@ all-numbered-spec =
     μ-loop
     (λ c. omega arith)
     (λ c. (omega arith, refl, refl))
-    (λ c. omega arith)
-    (λ c. omega arith)
-    (λ c. omega arith)
+    (λ c κs. omega arith)
     (λ c κs. search needs)
-    (λ c. search needs)
     returns
     (λ c. omega arith)
     (λ c. omega arith)

@@ -1,5 +1,4 @@
 -- Before each turn the numbers that are left give the same answer as all of them, and they are sectors of the board.
-use borrow.Author.Needs.{needs}
 use native.Mathlib.Omega.{arith}
 use mathlib.Core.Path.{_≡_, refl, subst}
 use mathlib.Core.List.{List}
@@ -9,7 +8,7 @@ use lib.Seq.{slice, slice-empty}
 use lib.Dec.{T}
 use Rattle.words.specs.Lists.{any, all}
 use Rattle.words.proofs.Tests.{both-left, both-right}
-use Rattle.board.specs.Quantities.{sector, isSector, numbered}
+use Rattle.board.specs.Quantities.{isSector, numberedAt, numbered}
 use Rattle.board.specs.View.{writeProtected}
 use Rattle.board.specs.declared.Sector.{Sector}
 use Rattle.board.proofs.InOrder.{numbered-first}
@@ -28,25 +27,26 @@ abbrev μ-loop : tie.MeasureT-loop
 
 write-protected-requires : tie.Need-write-protected-requires Inv-loop μ-loop
 write-protected-requires c κs =
-    let at-loop = c .before .before .before .before in
+    let at-loop = c .before .before in
     let start = at-loop .before .before in
-    let k = c .number2 .result in
-    let f =
-    numbered-first (start .args .staged .now) (at-loop .loop .j) (2 * start .args .x) k (c .number2 .ensures) (omega arith)
-    (omega arith) in
-    both-left (isSector (sector k)) (all isSector (numbered (slice (at-loop .loop .j + 2) (2 * start .args .x)
-    (start .args .staged .now)))) (subst (λ (l : List Sector). T (all isSector l)) f (at-loop .loop .inv .2))
+    let s = start .args .staged .now in
+    let j = at-loop .loop .j in
+    let m = 2 * start .args .x in
+    let f = numbered-first s j m (omega arith) (omega arith) in
+    rw (c .numbered .ensures) (both-left (isSector (numberedAt s j)) (all isSector (numbered (slice (j + 2) m s)))
+    (subst (λ (l : List Sector). T (all isSector l)) f (at-loop .loop .inv .2)))
 
 returns : tie.Need-returns Inv-loop μ-loop
 returns c =
     let after-write-protected = c .before in
-    let after-number2 = after-write-protected .before in
-    let at-loop = after-number2 .before .before .before .before in
+    let after-numbered = after-write-protected .before in
+    let at-loop = after-numbered .before .before in
     let start = at-loop .before .before in
     rw (
       ← at-loop .loop .inv .3,
-      numbered-first (start .args .staged .now) (at-loop .loop .j) (2 * start .args .x)
-          (after-number2 .number2 .result) (after-number2 .number2 .ensures) (omega arith) (omega arith),
+      numbered-first (start .args .staged .now) (at-loop .loop .j) (2 * start .args .x) (omega arith)
+          (omega arith),
+      ← after-numbered .numbered .ensures,
       ← after-write-protected .write-protected .ensures,
       c .if1 .taken,
     )
@@ -54,18 +54,19 @@ returns c =
 loop-again : tie.Need-loop-again Inv-loop μ-loop
 loop-again c =
     let after-write-protected = c .before in
-    let after-number2 = after-write-protected .before in
-    let at-loop = after-number2 .before .before .before .before in
+    let after-numbered = after-write-protected .before in
+    let at-loop = after-numbered .before .before in
     let start = at-loop .before .before in
-    let k = after-number2 .number2 .result in
-    let f =
-    numbered-first (start .args .staged .now) (at-loop .loop .j) (2 * start .args .x) k (after-number2 .number2 .ensures) (omega arith)
-    (omega arith) in (
+    let s = start .args .staged .now in
+    let j = at-loop .loop .j in
+    let m = 2 * start .args .x in
+    let f = numbered-first s j m (omega arith) (omega arith) in (
       omega arith,
       omega arith,
-      both-right (isSector (sector k)) (all isSector (numbered (slice (at-loop .loop .j + 2) (2 * start .args .x)
-          (start .args .staged .now)))) (subst (λ (l : List Sector). T (all isSector l)) f (at-loop .loop .inv .2)),
-      rw (f, ← after-write-protected .write-protected .ensures, c .if1 .left) at (at-loop .loop .inv .3),
+      both-right (isSector (numberedAt s j)) (all isSector (numbered (slice (j + 2) m s)))
+          (subst (λ (l : List Sector). T (all isSector l)) f (at-loop .loop .inv .2)),
+      rw (f, ← after-numbered .numbered .ensures, ← after-write-protected .write-protected .ensures, c .if1 .left) at
+          (at-loop .loop .inv .3),
     )
 
 returns-2 : tie.Need-returns-2 Inv-loop μ-loop
@@ -83,10 +84,7 @@ any-numbered-protected-spec =
     μ-loop
     (λ c. omega arith)
     (λ c. (omega arith, refl, c .before .pre .1, refl))
-    (λ c. omega arith)
-    (λ c. omega arith)
-    (λ c. omega arith)
-    (λ c κs. search needs)
+    (λ c κs. omega arith)
     write-protected-requires
     returns
     (λ c. omega arith)

@@ -1,11 +1,11 @@
 -- Before each turn the indexes that are left give the same answer as all of them.
 use borrow.Author.Needs.{needs}
 use native.Mathlib.Omega.{arith}
-use mathlib.Core.Path.{_≡_, refl}
+use borrow.Author.Tests.{not-true, not-false}
+use mathlib.Core.Path.{_≡_, refl, sym, ap, _∙_}
 use Prim.Native.Nat.{_≤_, _-_}
-use lib.ListN.{getD, take}
+use lib.ListN.{take}
 use lib.Seq.{slice, slice-empty}
-use borrow.Author.Tests.{lt-ltb, le-ltb}
 use Rattle.words.specs.Lists.{all}
 use Rattle.board.specs.Quantities.{isSector, indexed}
 use Rattle.board.proofs.InOrder.{indexed-first}
@@ -20,23 +20,28 @@ abbrev μ-loop : tie.MeasureT-loop
 
 returns : tie.Need-returns Inv-loop μ-loop
 returns c =
-    let at-loop = c .before .before .before in
-    let start = at-loop .before in
+    let after-exists = c .before in
+    let after-indexed = after-exists .before in
+    let at-loop = after-indexed .before .before in
+    let start = at-loop .before .before in
     rw (
       ← at-loop .loop .inv .1,
       indexed-first (start .args .staged .now) (at-loop .loop .i) (start .args .x) (omega arith) (omega arith),
-      le-ltb (getD (start .args .staged .now) (at-loop .loop .i) 0) 32 (c .if1 .taken),
+      ap isSector (sym (after-indexed .indexed .ensures)) ∙ sym (after-exists .exists .ensures) ∙ not-true _ (c .if1 .taken),
     )
 
 loop-again : tie.Need-loop-again Inv-loop μ-loop
 loop-again c =
-    let at-loop = c .before .before .before in
-    let start = at-loop .before in (
+    let after-exists = c .before in
+    let after-indexed = after-exists .before in
+    let at-loop = after-indexed .before .before in
+    let start = at-loop .before .before in (
       omega arith,
       rw (
         indexed-first (start .args .staged .now) (at-loop .loop .i) (start .args .x) (omega arith) (omega arith),
-        lt-ltb (getD (start .args .staged .now) (at-loop .loop .i) 0) 32 (c .if1 .left),
-      ) at (at-loop .loop .inv .1),
+        ap isSector (sym (after-indexed .indexed .ensures)) ∙ sym (after-exists .exists .ensures) ∙ not-false _ (c .if1 .left),
+      ) at
+          (at-loop .loop .inv .1),
     )
 
 pub all-indexed-spec : {M : Type 1} → statement M
@@ -46,10 +51,10 @@ all-indexed-spec =
     Inv-loop
     μ-loop
     (λ c. (omega arith, refl))
-    (λ c. search needs)
-    (λ c. omega arith)
+    (λ c κs. omega arith)
+    (λ c κs. search needs)
     returns
     (λ c. omega arith)
     (λ c. omega arith)
     loop-again
-    (λ c. let e : c .before .loop .i ≡ c .before .before .args .x = omega arith in rw (e, slice-empty) at (c .before .loop .inv .1)))
+    (λ c. let e : c .before .loop .i ≡ c .before .before .before .args .x = omega arith in rw (e, slice-empty) at (c .before .loop .inv .1)))

@@ -1,7 +1,7 @@
 -- The address is decided on by whether it is known.
 use borrow.Author.Needs.{needs}
 use mathlib.Core.Path.{ap}
-use Rattle.constants.specs.declared.Address.{Address}
+use Rattle.board.specs.declared.Address.{Address}
 use Rattle.uart.specs.Conversation.{addressed, keptIf}
 use Rattle.uart_deciding.proofs.address.region_address.Statement.{statement}
 use Rattle.uart_deciding.proofs.address.region_address.Tie as tie

@@ -1,40 +1,13 @@
-pub mod held;
-
+// The constants of the board, proved to be the numbers of specs/Board.
 ghost use mathlib.Core.Path.{_≡_};
-
-// A byte address.
-pub struct Address(pub u32);
-
-// A region's first address and its number of bytes.
-pub struct Extent {
-    pub first: Address,
-    pub bytes: usize,
-}
-
-// The sectors of the flash: how many, and how long each is.
-pub struct Sectors {
-    pub count: usize,
-    pub bytes: usize,
-}
-
-// The bytes of user system data that have a meaning.
-pub struct Layout {
-    pub protection: usize,
-    pub protection_off: u8,
-    pub sector_bits: usize,
-}
-
-// The values by which a host tells the board.
-pub struct Identity {
-    pub version: u8,
-    pub bid_first: u8,
-    pub bid_second: u8,
-    pub product: u32,
-    pub project: u8,
-}
-
-// The board, whose constants these are.
-pub struct Board;
+ghost use Rattle.board.specs.Board.{flash, sram, usd, sectors, layout, identity};
+use crate::Address;
+use crate::Board;
+use crate::Extent;
+use crate::Identity;
+use crate::Layout;
+use crate::Sectors;
+use words::BYTE_BITS;
 
 impl Board {
     // The flash: its first address, its sectors and the bytes of each, and its bytes.
@@ -61,8 +34,10 @@ impl Board {
 
     pub const PROTECTION_OFF: u8 = 0xA5;
 
-    // The first of the bytes of user system data that hold one bit per sector.
+    // The first of the bytes of user system data that hold one bit per sector, and how many they are.
     pub const SECTOR_BITS: usize = 8;
+
+    pub const BIT_BYTES: usize = Board::SECTORS / BYTE_BITS;
 
     // Protocol version, BID bytes, product ID and project ID.
     pub const VERSION: u8 = 0x20;
@@ -77,8 +52,7 @@ impl Board {
 
     // The flash.
     pub fn flash() -> Extent
-        ensures { λ r. do ⌜ r .first .0 ≡ (← ⟦Board::FLASH_FIRST⟧ .entry) ⌝ }
-        ensures { λ r. do ⌜ r .bytes ≡ (← ⟦Board::FLASH_BYTES⟧ .entry) ⌝ }
+        ensures { λ r. ⌜ r ≡ flash ⌝ }
     {
         Extent {
             first: Address(Board::FLASH_FIRST),
@@ -88,8 +62,7 @@ impl Board {
 
     // The SRAM.
     pub fn sram() -> Extent
-        ensures { λ r. do ⌜ r .first .0 ≡ (← ⟦Board::SRAM_FIRST⟧ .entry) ⌝ }
-        ensures { λ r. do ⌜ r .bytes ≡ (← ⟦Board::SRAM_BYTES⟧ .entry) ⌝ }
+        ensures { λ r. ⌜ r ≡ sram ⌝ }
     {
         Extent {
             first: Address(Board::SRAM_FIRST),
@@ -99,8 +72,7 @@ impl Board {
 
     // The user system data.
     pub fn usd() -> Extent
-        ensures { λ r. do ⌜ r .first .0 ≡ (← ⟦Board::USD_FIRST⟧ .entry) ⌝ }
-        ensures { λ r. do ⌜ r .bytes ≡ (← ⟦Board::USD_BYTES⟧ .entry) ⌝ }
+        ensures { λ r. ⌜ r ≡ usd ⌝ }
     {
         Extent {
             first: Address(Board::USD_FIRST),
@@ -110,8 +82,7 @@ impl Board {
 
     // The sectors of the flash.
     pub fn sectors() -> Sectors
-        ensures { λ r. do ⌜ r .count ≡ (← ⟦Board::SECTORS⟧ .entry) ⌝ }
-        ensures { λ r. do ⌜ r .bytes ≡ (← ⟦Board::SECTOR_BYTES⟧ .entry) ⌝ }
+        ensures { λ r. ⌜ r ≡ sectors ⌝ }
     {
         Sectors {
             count: Board::SECTORS,
@@ -121,9 +92,7 @@ impl Board {
 
     // Where the protection byte and the sector bits stand in user system data.
     pub fn layout() -> Layout
-        ensures { λ r. do ⌜ r .protection ≡ (← ⟦Board::PROTECTION⟧ .entry) ⌝ }
-        ensures { λ r. do ⌜ r .«protection_off» ≡ (← ⟦Board::PROTECTION_OFF⟧ .entry) ⌝ }
-        ensures { λ r. do ⌜ r .«sector_bits» ≡ (← ⟦Board::SECTOR_BITS⟧ .entry) ⌝ }
+        ensures { λ r. ⌜ r ≡ layout ⌝ }
     {
         Layout {
             protection: Board::PROTECTION,
@@ -134,11 +103,7 @@ impl Board {
 
     // What the board says of itself.
     pub fn identity() -> Identity
-        ensures { λ r. do ⌜ r .version ≡ (← ⟦Board::VERSION⟧ .entry) ⌝ }
-        ensures { λ r. do ⌜ r .«bid_first» ≡ (← ⟦Board::BID_FIRST⟧ .entry) ⌝ }
-        ensures { λ r. do ⌜ r .«bid_second» ≡ (← ⟦Board::BID_SECOND⟧ .entry) ⌝ }
-        ensures { λ r. do ⌜ r .product ≡ (← ⟦Board::PRODUCT⟧ .entry) ⌝ }
-        ensures { λ r. do ⌜ r .project ≡ (← ⟦Board::PROJECT⟧ .entry) ⌝ }
+        ensures { λ r. ⌜ r ≡ identity ⌝ }
     {
         Identity {
             version: Board::VERSION,
