@@ -29,7 +29,7 @@ use Rattle.boot.proofs.Sound.{uart-expects, can-expects}
 connected-good : (staged : List ℕ) (c : Carrier) (s : Session) (calls : Bool) {d : Decision}
     → (T (on c s) → Holds (Good staged) d) → Holds (Good staged) (connected c s calls d)
 unfolding connected
-connected-good staged c s calls f = split (Good staged) (on c s) f (λ o. either (Good staged) _ (told _ tt) (told _ tt))
+connected-good staged c s calls f = split (Good staged) (on c s) f (λ o. either (Good staged) _ (told _) (told _))
 
 -- one UART byte
 pub byte-good : (s : Session) (view : View) (b : ℕ) → T (sound s) → getD (stagedWith (progress s) (b ∷ [])) 0 0 < 256
@@ -38,7 +38,7 @@ unfolding decideByte UC.heard
 byte-good s view b t h =
     let staged = stagedWith (progress s) (b ∷ []) in
     connected-good staged Uart s _
-    (λ o. either (Good staged) _ (told _ tt) (complete-good _ h (U.stepOf (s .step)) (s .expected) (uart-expects s t o) (s .address) view))
+    (λ o. either (Good staged) _ (told _) (complete-good _ h (U.stepOf (s .step)) (s .expected) (uart-expects s t o) (s .address) view))
 
 -- one CAN frame
 pub frame-good : (s : Session) (view : View) (f : Frame) → T (sound s) → getD (carried f) addressBytes 0 < 256

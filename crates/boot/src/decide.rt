@@ -14,7 +14,7 @@ use board::View;
 use carriers::Carrier;
 use command::Decision;
 use command::Next;
-use command::Reply;
+use command::Told;
 
 // The byte that asks for a connection, and the ID.
 const CONNECT_BYTE: u8 = 0x7F;
@@ -28,9 +28,9 @@ impl Session {
     {
         let connects = self.on(Carrier::None) & calls;
         if connects {
-            command::answer(Reply::Ack, Next::GoIdle)
+            command::answer(Told::Ack, Next::GoIdle)
         } else {
-            command::answer(Reply::Silence, Next::Stay)
+            command::answer(Told::Silence, Next::Stay)
         }
     }
 

@@ -31,48 +31,48 @@ module _ (bytes : List ℕ) where
   erased-good : (v : Verdict) → Holds (Good bytes) (erasedOrNot v)
   unfolding erasedOrNot
   erased-good Fine = record { holds = record { sayable = tt; fits = tt } }
-  erased-good (No w) = told bytes tt
+  erased-good (No w) = told bytes
 
   selected-good : (view : View) (k : Selector) → Holds (Good bytes) (selected view k)
   unfolding selected
-  selected-good view (Listed n) = told bytes tt
+  selected-good view (Listed n) = told bytes
   selected-good view (Special n) = erased-good _
-  selected-good view Impossible = told bytes tt
+  selected-good view Impossible = told bytes
 
   -- the byte behind the address is a byte, so that no read is longer than 256
   obeyed-good : (view : View) (d : List ℕ) → getD d addressBytes 0 < 256 → (k : Command) → T (dlcFits k (length d)) → Holds (Good bytes) (obeyed view d k)
   unfolding obeyed
-  obeyed-good view d b GetCommands t = told bytes tt
-  obeyed-good view d b GetVersion t = told bytes tt
-  obeyed-good view d b GetDeviceId t = told bytes tt
+  obeyed-good view d b GetCommands t = told bytes
+  obeyed-good view d b GetVersion t = told bytes
+  obeyed-good view d b GetDeviceId t = told bytes
   obeyed-good view d b ReadMemory t =
       let e = last-number addressBytes d (eqb→eq (length d) 5 t) in
       reading-good bytes _ (countSent (drop addressBytes d)) (omega arith)
   obeyed-good view d b Jump t = jumping-good bytes _
-  obeyed-good view d b WriteMemory t = judged-either (Good bytes) _ (refusal bytes) (told bytes tt)
+  obeyed-good view d b WriteMemory t = judged-either (Good bytes) _ (refusal bytes) (told bytes)
   obeyed-good view d b Erase t = selected-good view _
-  obeyed-good view d b ProgramProtect t = told bytes tt
+  obeyed-good view d b ProgramProtect t = told bytes
   obeyed-good view d b ProgramUnprotect t = record { holds = record { sayable = tt; fits = tt } }
   obeyed-good view d b AccessProtect t = record { holds = record { sayable = tt; fits = tt } }
   obeyed-good view d b AccessUnprotect t = record { holds = record { sayable = tt; fits = tt } }
   obeyed-good view d b FirmwareCrc t = summing-good bytes _ _
-  obeyed-good view d b ResetDevice t = told bytes tt
-  obeyed-good view d b Speed t = either (Good bytes) _ (told bytes tt) (told bytes tt)
+  obeyed-good view d b ResetDevice t = told bytes
+  obeyed-good view d b Speed t = either (Good bytes) _ (told bytes) (told bytes)
 
   commanded-good : (view : View) (d : List ℕ) → getD d addressBytes 0 < 256 → (k : Lookup) → Holds (Good bytes) (commanded view d k)
   unfolding commanded
   commanded-good view d b (Known k) =
       split (Good bytes) (dlcFits k (length d))
-      (λ t. unless-either (Good bytes) view k (refusal bytes) (obeyed-good view d b k t)) (λ n. told bytes tt)
-  commanded-good view d b Unknown = told bytes tt
+      (λ t. unless-either (Good bytes) view k (refusal bytes) (obeyed-good view d b k t)) (λ n. told bytes)
+  commanded-good view d b Unknown = told bytes
 
   gathering-good : (c : Command) (p : Progress) (f : Frame) {d : Decision} → Holds (Good bytes) d → Holds (Good bytes) (gathering c p f d)
   unfolding gathering
-  gathering-good c p f h = either (Good bytes) _ (told bytes tt) (either (Good bytes) _ (told bytes tt) h)
+  gathering-good c p f h = either (Good bytes) _ (told bytes) (either (Good bytes) _ (told bytes) h)
 
   unless-good : (p : Progress) (f : Frame) {d : Decision} → Holds (Good bytes) d → Holds (Good bytes) (unlessExtra p f d)
   unfolding unlessExtra
-  unless-good p f h = either (Good bytes) _ (told bytes tt) h
+  unless-good p f h = either (Good bytes) _ (told bytes) h
 
 pub decided-good : (s : Step) (p : Progress) → T (expects s (p .expected)) → (view : View) (f : Frame) → getD (f .bytes) addressBytes 0 < 256
     → Holds (Good (p .staged)) (decided s p view f)

@@ -19,7 +19,7 @@ use Rattle.command.specs.declared.Decision.{Decision}
 use Rattle.command.specs.declared.Lookup.{Lookup}
 use Rattle.command.specs.declared.Lookup.the-variants.{Known, Unknown}
 use Rattle.command.specs.declared.Next.the-variants.{Gather, GoIdle, SetSpeed, Enter, EnterAt}
-use Rattle.command.specs.declared.Reply.the-variants.{Silence, Ack, AckAck, AckNack, Commands, Version, DeviceId}
+use Rattle.command.specs.declared.Told.the-variants.{Silence, Ack, AckAck, AckNack, Commands, Version, DeviceId}
 use Rattle.command.specs.declared.Verdict.{Verdict}
 use Rattle.command.specs.declared.Verdict.the-variants.{Fine, No}
 use Rattle.command.specs.declared.Why.the-variants.{BadComplement, UnknownCommand, OtherFrame, BadRange, BadSpeed}

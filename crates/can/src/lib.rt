@@ -7,7 +7,7 @@ ghost use lib.Dec.{eqb, leb, ltb};
 ghost use Rattle.board.specs.Quantities.{largestCount};
 ghost use Rattle.command.specs.Decision.{if_gives_else_, answer, nack};
 ghost use Rattle.command.specs.declared.Next.the-variants.{Gather};
-ghost use Rattle.command.specs.declared.Reply.the-variants.{Silence};
+ghost use Rattle.command.specs.declared.Told.the-variants.{Silence};
 ghost use Rattle.command.specs.declared.Why.the-variants.{BadRange, OtherFrame};
 ghost use Rattle.frames.specs.Frames.{classic};
 ghost use Rattle.can.specs.Steps.{stepNo, stepOf, expects};
@@ -16,7 +16,7 @@ use board::Board;
 use board::LessOne;
 use command::Decision;
 use command::Next;
-use command::Reply;
+use command::Told;
 use command::Why;
 use command::code;
 
@@ -118,7 +118,7 @@ pub fn gathering(
     }
     let more = taken + dlc < expected;
     if more {
-        command::answer(Reply::Silence, Next::Gather)
+        command::answer(Told::Silence, Next::Gather)
     } else {
         done
     }

@@ -13,7 +13,7 @@ use command::Command;
 use command::Decision;
 use command::Lookup;
 use command::Next;
-use command::Reply;
+use command::Told;
 use command::Verdict;
 use command::Why;
 use command::code;
@@ -81,7 +81,7 @@ fn write_memory(view: View, carried: &[u8]) -> Decision
     command::judged(
         deciding::write::write_verdict(view, address, x),
         command::answer(
-            Reply::Ack,
+            Told::Ack,
             Next::EnterAt(Step::WriteData.number(), x, address.0),
         ),
     )
@@ -92,8 +92,8 @@ fn erased_or_not(verdict: Verdict) -> Decision
     ensures { λ r. ⌜ r ≡ erasedOrNot verdict ⌝ }
 {
     match verdict {
-        Verdict::Fine => command::alter(Reply::AckAck, Change::EraseAll, Next::GoIdle),
-        Verdict::No(why) => command::answer(Reply::AckNack(why), Next::GoIdle),
+        Verdict::Fine => command::alter(Told::AckAck, Change::EraseAll, Next::GoIdle),
+        Verdict::No(why) => command::answer(Told::AckNack(why), Next::GoIdle),
     }
 }
 
@@ -103,7 +103,7 @@ fn selected(view: View, selector: Selector) -> Decision
 {
     match selector {
         Selector::Listed(sent) => command::answer(
-            Reply::Ack,
+            Told::Ack,
             Next::Enter(Step::EraseList.number(), 2 * sent.count()),
         ),
         Selector::Special(number) => {
@@ -130,7 +130,7 @@ fn program_protect(carried: &[u8]) -> Decision
     ensures { λ r. ⌜ r ≡ obeyed (viewOf []) (now (carried .entry)) ProgramProtect ⌝ }
 {
     command::answer(
-        Reply::Ack,
+        Told::Ack,
         Next::Enter(Step::ProtectList.number(), sent::count_of(carried[0])),
     )
 }
@@ -157,7 +157,7 @@ fn set_speed(carried: &[u8]) -> Decision
     let speed = carried[0];
     command::accept_if(
         speed <= LARGEST_SPEED,
-        command::answer(Reply::AckAck, Next::SetSpeed(speed)),
+        command::answer(Told::AckAck, Next::SetSpeed(speed)),
         Why::BadSpeed,
     )
 }
@@ -168,9 +168,9 @@ fn obeyed(view: View, carried: &[u8], command: Command) -> Decision
     ensures { λ r. ⌜ r ≡ obeyed view (now (carried .entry)) command ⌝ }
 {
     match command {
-        Command::GetCommands => at_once::tell(Reply::Commands),
-        Command::GetVersion => at_once::tell(Reply::Version),
-        Command::GetDeviceId => at_once::tell(Reply::DeviceId),
+        Command::GetCommands => at_once::tell(Told::Commands),
+        Command::GetVersion => at_once::tell(Told::Version),
+        Command::GetDeviceId => at_once::tell(Told::DeviceId),
         Command::ReadMemory => read_memory(carried),
         Command::Jump => deciding::jump::jump(sent::address_in(carried)),
         Command::WriteMemory => write_memory(view, carried),

@@ -6,7 +6,9 @@ use Rattle.command.specs.declared.Decision.{Decision}
 use Rattle.command.specs.declared.Next.{Next}
 use Rattle.command.specs.declared.Next.the-variants.{GoIdle}
 use Rattle.command.specs.declared.Reply.{Reply}
-use Rattle.command.specs.declared.Reply.the-variants.{Nack}
+use Rattle.command.specs.declared.Reply.the-variants.{Fixed}
+use Rattle.command.specs.declared.Told.{Told}
+use Rattle.command.specs.declared.Told.the-variants.{Nack}
 use Rattle.command.specs.declared.Verdict.{Verdict}
 use Rattle.command.specs.declared.Verdict.the-variants.{Fine, No}
 use Rattle.command.specs.declared.Why.{Why}
@@ -17,13 +19,17 @@ unfoldable pub if_gives_else_ : Bool → Decision → Decision → Decision
 if true gives a else b = a
 if false gives a else b = b
 
--- a reply and what becomes of the session; the memories stay
-abbrev pub answer : Reply → Next → Decision
-answer r n = record { reply = r; change = Nothing; next = n }
+-- what is told and what becomes of the session; the memories stay
+abbrev pub answer : Told → Next → Decision
+answer t n = record { reply = Fixed t; change = Nothing; next = n }
 
--- a reply to a change that is made
-abbrev pub alter : Reply → Change → Next → Decision
-alter r c n = record { reply = r; change = c; next = n }
+-- what is told of a change that is made
+abbrev pub alter : Told → Change → Next → Decision
+alter t c n = record { reply = Fixed t; change = c; next = n }
+
+-- what is read from a memory, after which the session is idle
+abbrev pub show : Reply → Decision
+show r = record { reply = r; change = Nothing; next = GoIdle }
 
 -- after a NACK the session is idle
 abbrev pub nack : Why → Decision

@@ -12,7 +12,9 @@ use Rattle.board.specs.Quantities.{largestCount}
 use Rattle.word_crc.specs.Words.{wordCrc}
 use Rattle.memories.specs.Memories.{Memories, bytesOf}
 use Rattle.command.specs.declared.Reply.{Reply}
-use Rattle.command.specs.declared.Reply.the-variants.{Silence, Ack, AckAck, Nack, AckNack, Commands, Version, DeviceId, Data, Crc}
+use Rattle.command.specs.declared.Reply.the-variants.{Fixed, Data, Crc}
+use Rattle.command.specs.declared.Told.{Told}
+use Rattle.command.specs.declared.Told.the-variants.{Silence, Ack, AckAck, Nack, AckNack, Commands, Version, DeviceId}
 
 -- ACK is 0x79, NACK 0x1F
 abbrev pub ackByte : ℕ
@@ -41,42 +43,32 @@ deviceBytes =
     0x04 ∷ byteOf (identity .product) 1 ∷ byteOf (identity .product) 0 ∷ byteOf (identity .product) 3
     ∷ byteOf (identity .product) 2 ∷ identity .project ∷ []
 
--- the messages of a reply, given what the carrier tells of its commands
+-- the messages of what is told, given what the carrier tells of its commands
+abbrev pub tells : List ℕ → Told → List (List ℕ)
+tells commands Silence = []
+tells commands Ack = ackMessage ∷ []
+tells commands AckAck = ackMessage ∷ ackMessage ∷ []
+tells commands (Nack w) = nackMessage ∷ []
+tells commands (AckNack w) = ackMessage ∷ nackMessage ∷ []
+tells commands Commands = told commands
+tells commands Version = told versionBytes
+tells commands DeviceId = told deviceBytes
+
+-- and those of a reply
 unfoldable pub says : List ℕ → Reply → Memories → List (List ℕ)
-says commands Silence m = []
-says commands Ack m = ackMessage ∷ []
-says commands AckAck m = ackMessage ∷ ackMessage ∷ []
-says commands (Nack w) m = nackMessage ∷ []
-says commands (AckNack w) m = ackMessage ∷ nackMessage ∷ []
-says commands Commands m = told commands
-says commands Version m = told versionBytes
-says commands DeviceId m = told deviceBytes
+says commands (Fixed t) m = tells commands t
 says commands (Data r at x) m = ackMessage ∷ part at x (bytesOf r m) ∷ []
 says commands (Crc at n) m = ackMessage ∷ fourBytes (wordCrc (part at n (m .flash))) ∷ []
 
 -- a reply tells nothing of a memory
 abbrev pub fixed : Reply → Bool
-fixed Silence = true
-fixed Ack = true
-fixed AckAck = true
-fixed (Nack w) = true
-fixed (AckNack w) = true
-fixed Commands = true
-fixed Version = true
-fixed DeviceId = true
+fixed (Fixed t) = true
 fixed (Data r at x) = false
 fixed (Crc at n) = false
 
 -- a reply can be given: its bytes of a memory are there, and no more than a command carries
 abbrev pub sayable : Reply → Bool
-sayable Silence = true
-sayable Ack = true
-sayable AckAck = true
-sayable (Nack w) = true
-sayable (AckNack w) = true
-sayable Commands = true
-sayable Version = true
-sayable DeviceId = true
+sayable (Fixed t) = true
 sayable (Data r at x) = leb x largestCount && leb (at + x) (extentOf r .bytes)
 sayable (Crc at n) = leb (at + n) (flash .bytes)
 

@@ -3,7 +3,7 @@ pub mod held;
 pub mod protected;
 
 ghost use mathlib.Core.Path.{_≡_};
-ghost use Rattle.command.specs.Decision.{if_gives_else_, answer, alter, nack, judged};
+ghost use Rattle.command.specs.Decision.{if_gives_else_, answer, alter, show, nack, judged};
 use board::Region;
 use memories::Change;
 
@@ -55,8 +55,8 @@ pub enum Verdict {
     No(Why),
 }
 
-// What is answered; bytes of a memory are named, not held.
-pub enum Reply {
+// What is told whatever the memories hold.
+pub enum Told {
     Silence,
     Ack,
     AckAck,
@@ -65,6 +65,11 @@ pub enum Reply {
     Commands,
     Version,
     DeviceId,
+}
+
+// What is answered: what is fixed, or what is read from a memory, whose bytes are named, not held.
+pub enum Reply {
+    Fixed(Told),
     // So many bytes of a region, from an offset on.
     Data(Region, usize, usize),
     // The checksum of so many bytes of flash, from an offset on.
@@ -93,25 +98,32 @@ pub struct Decision {
     pub next: Next,
 }
 
-// A reply, and what becomes of the session; the memories stay.
-pub fn answer(reply: Reply, next: Next) -> Decision
-    ensures { λ r. ⌜ r ≡ answer reply next ⌝ }
+// What is told, and what becomes of the session; the memories stay.
+pub fn answer(told: Told, next: Next) -> Decision
+    ensures { λ r. ⌜ r ≡ answer told next ⌝ }
+{
+    alter(told, Change::Nothing, next)
+}
+
+// What is told of a change that is made.
+pub fn alter(told: Told, change: Change, next: Next) -> Decision
+    ensures { λ r. ⌜ r ≡ alter told change next ⌝ }
 {
     Decision {
-        reply: reply,
-        change: Change::Nothing,
+        reply: Reply::Fixed(told),
+        change: change,
         next: next,
     }
 }
 
-// A reply to a change that is made.
-pub fn alter(reply: Reply, change: Change, next: Next) -> Decision
-    ensures { λ r. ⌜ r ≡ alter reply change next ⌝ }
+// What is read from a memory, after which the session is idle.
+pub fn show(reply: Reply) -> Decision
+    ensures { λ r. ⌜ r ≡ show reply ⌝ }
 {
     Decision {
         reply: reply,
-        change: change,
-        next: next,
+        change: Change::Nothing,
+        next: Next::GoIdle,
     }
 }
 
@@ -119,7 +131,7 @@ pub fn alter(reply: Reply, change: Change, next: Next) -> Decision
 pub fn nack(why: Why) -> Decision
     ensures { λ r. ⌜ r ≡ nack why ⌝ }
 {
-    answer(Reply::Nack(why), Next::GoIdle)
+    answer(Told::Nack(why), Next::GoIdle)
 }
 
 // A decision that is accepted where a test holds, and else refused.

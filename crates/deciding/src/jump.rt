@@ -3,7 +3,7 @@ ghost use Rattle.rules.specs.Rules.{jumping};
 use board::Address;
 use command::Decision;
 use command::Next;
-use command::Reply;
+use command::Told;
 use command::Why;
 
 // A jump to an address in flash or SRAM.
@@ -12,7 +12,7 @@ pub fn jump(address: Address) -> Decision
 {
     command::accept_if(
         board::range::jumpable(address),
-        command::answer(Reply::Ack, Next::Run(address.0)),
+        command::answer(Told::Ack, Next::Run(address.0)),
         Why::BadAddress,
     )
 }

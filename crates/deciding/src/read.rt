@@ -3,7 +3,6 @@ ghost use Rattle.rules.specs.Rules.{readAt, reading};
 use board::Address;
 use board::Place;
 use command::Decision;
-use command::Next;
 use command::Reply;
 use command::Why;
 
@@ -12,7 +11,7 @@ fn read_at(place: Place, x: usize) -> Decision
     ensures { λ r. ⌜ r ≡ readAt place x ⌝ }
 {
     match place {
-        Place::In(region, at) => command::answer(Reply::Data(region, at, x), Next::GoIdle),
+        Place::In(region, at) => command::show(Reply::Data(region, at, x)),
         Place::Nowhere => command::nack(Why::BadRange),
     }
 }

@@ -7,7 +7,6 @@ use board::Address;
 use board::Place;
 use board::Region;
 use command::Decision;
-use command::Next;
 use command::Reply;
 use command::Why;
 
@@ -17,7 +16,7 @@ fn sum_at(place: Place, n: usize) -> Decision
 {
     match place {
         Place::In(region, at) => match region {
-            Region::Flash => command::answer(Reply::Crc(at, n), Next::GoIdle),
+            Region::Flash => command::show(Reply::Crc(at, n)),
             _ => command::nack(Why::BadRange),
         },
         Place::Nowhere => command::nack(Why::BadRange),

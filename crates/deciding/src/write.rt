@@ -15,7 +15,7 @@ use board::Sector;
 use board::View;
 use command::Decision;
 use command::Next;
-use command::Reply;
+use command::Told;
 use command::Verdict;
 use command::Why;
 use memories::Change;
@@ -93,7 +93,7 @@ fn write_at(place: Place, x: usize) -> Decision
 {
     match place {
         Place::In(region, at) => command::alter(
-            Reply::Ack,
+            Told::Ack,
             Change::Write(region, at, x),
             after_write(region),
         ),

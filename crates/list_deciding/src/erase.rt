@@ -13,7 +13,7 @@ use board::Sector;
 use board::View;
 use command::Decision;
 use command::Next;
-use command::Reply;
+use command::Told;
 use command::Verdict;
 use command::Why;
 use memories::Change;
@@ -103,7 +103,7 @@ pub fn erase(view: View, staged: &[u8], x: usize) -> Decision
 {
     command::judged(
         erase_verdict(view, staged, x),
-        command::alter(Reply::Ack, Change::EraseSectors(x), Next::GoIdle),
+        command::alter(Told::Ack, Change::EraseSectors(x), Next::GoIdle),
     )
 }
 

@@ -8,7 +8,7 @@ ghost use Rattle.rules.specs.Rules.{protecting};
 use board::Sector;
 use command::Decision;
 use command::Next;
-use command::Reply;
+use command::Told;
 use command::Why;
 use memories::Change;
 
@@ -36,7 +36,7 @@ pub fn protect(staged: &[u8], x: usize) -> Decision
 {
     let sectors = all_indexed(staged, x);
     if sectors {
-        command::alter(Reply::Ack, Change::ProtectOnly(x), Next::Reset)
+        command::alter(Told::Ack, Change::ProtectOnly(x), Next::Reset)
     } else {
         command::nack(Why::BadSector)
     }

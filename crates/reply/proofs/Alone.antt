@@ -5,8 +5,6 @@ use mathlib.Core.List.{List, [], _∷_, _++_, append-nil}
 use Prim.Native.Nat.{ℕ, _+_, _-_, _≤_, _<_}
 use native.Mathlib.Nat.{not-suc-le-zero}
 use native.Mathlib.Omega.{arith}
-use denote.Enum.Declared.{tagOf}
-use types.Run.{OneOf, miss}
 use lib.Dec.{T}
 use lib.ListN.{length, take, drop, length-append}
 use lib.Seq.{take-append-seam, length-take-le}
@@ -18,41 +16,14 @@ use Rattle.words.specs.Choice.{if_then_else_}
 use Rattle.word_crc.specs.Words.{wordCrc}
 use Rattle.memories.specs.Memories.{Memories, bytesOf}
 use Rattle.command.specs.Says.{replyRoom, ackMessage, told, versionBytes, deviceBytes, says, fixed, Said}
-use Rattle.command.proofs.Reply.{the-type}
 use Rattle.command.specs.declared.Reply.{Reply}
-use Rattle.command.specs.declared.Reply.the-variants.{Silence, Ack, AckAck, Nack, AckNack, Commands, Version, DeviceId, Data, Crc}
+use Rattle.command.specs.declared.Reply.the-variants.{Fixed, Data, Crc}
+use Rattle.command.specs.declared.Told.the-variants.{Silence, Ack, AckAck, Nack, AckNack, Commands, Version, DeviceId}
 use Rattle.reply.specs.Fixed.{fixedRoom}
 use Rattle.can.specs.Conversation.{canRoom}
 use Rattle.reply.specs.Pieces.{pieceOf}
 use Rattle.frames.specs.Frames.{Kind, classic, headBytes, frame, frames, framed, firstAlone}
 use Rattle.frames.proofs.Cutting.{length-frame, length-frames, few-eights, ones, length-singly}
-
--- ---- pieces by the reply
-
--- neither data nor a checksum: one byte a frame
-pub rest-single : (r : Reply) → OneOf (0 ∷ 1 ∷ 2 ∷ 3 ∷ 4 ∷ 5 ∷ 6 ∷ 7 ∷ []) (tagOf the-type r) → 1 ≡ pieceOf r
-rest-single Silence k = refl
-rest-single Ack k = refl
-rest-single AckAck k = refl
-rest-single (Nack w) k = refl
-rest-single (AckNack w) k = refl
-rest-single Commands k = refl
-rest-single Version k = refl
-rest-single DeviceId k = refl
-rest-single (Data g at x) k = absurd (miss (0 ∷ 1 ∷ 2 ∷ 3 ∷ 4 ∷ 5 ∷ 6 ∷ 7 ∷ []) 8 tt k)
-rest-single (Crc at n) k = absurd (miss (0 ∷ 1 ∷ 2 ∷ 3 ∷ 4 ∷ 5 ∷ 6 ∷ 7 ∷ []) 9 tt k)
-
-pub rest-large : (r : Reply) → OneOf (8 ∷ 9 ∷ []) (tagOf the-type r) → 8 ≡ pieceOf r
-rest-large Silence k = absurd (miss (8 ∷ 9 ∷ []) 0 tt k)
-rest-large Ack k = absurd (miss (8 ∷ 9 ∷ []) 1 tt k)
-rest-large AckAck k = absurd (miss (8 ∷ 9 ∷ []) 2 tt k)
-rest-large (Nack w) k = absurd (miss (8 ∷ 9 ∷ []) 3 tt k)
-rest-large (AckNack w) k = absurd (miss (8 ∷ 9 ∷ []) 4 tt k)
-rest-large Commands k = absurd (miss (8 ∷ 9 ∷ []) 5 tt k)
-rest-large Version k = absurd (miss (8 ∷ 9 ∷ []) 6 tt k)
-rest-large DeviceId k = absurd (miss (8 ∷ 9 ∷ []) 7 tt k)
-rest-large (Data g at x) k = refl
-rest-large (Crc at n) k = refl
 
 -- ---- a reply's bytes, the first by itself
 
@@ -121,14 +92,14 @@ module _ (id : ℕ) where
   pub reply-alone : (list : List ℕ) (r : Reply) (m : Memories)
       → framed classic id (says list r m) ≡ firstAlone classic id (pieceOf r) (join (says list r m))
   unfolding says
-  reply-alone list Silence m = refl
-  reply-alone list Ack m = ones-alone (121 ∷ [])
-  reply-alone list AckAck m = ones-alone (121 ∷ 121 ∷ [])
-  reply-alone list (Nack w) m = ones-alone (31 ∷ [])
-  reply-alone list (AckNack w) m = ones-alone (121 ∷ 31 ∷ [])
-  reply-alone list Commands m = told-alone list
-  reply-alone list Version m = told-alone versionBytes
-  reply-alone list DeviceId m = told-alone deviceBytes
+  reply-alone list (Fixed Silence) m = refl
+  reply-alone list (Fixed Ack) m = ones-alone (121 ∷ [])
+  reply-alone list (Fixed AckAck) m = ones-alone (121 ∷ 121 ∷ [])
+  reply-alone list (Fixed (Nack w)) m = ones-alone (31 ∷ [])
+  reply-alone list (Fixed (AckNack w)) m = ones-alone (121 ∷ 31 ∷ [])
+  reply-alone list (Fixed Commands) m = told-alone list
+  reply-alone list (Fixed Version) m = told-alone versionBytes
+  reply-alone list (Fixed DeviceId) m = told-alone deviceBytes
   reply-alone list (Data g at x) m = eights-alone (part at x (bytesOf g m))
   reply-alone list (Crc at n) m = eights-alone (fourBytes (wordCrc (part at n (m .flash))))
 

@@ -35,8 +35,9 @@ fn piece_of(reply: Reply) -> usize
     ensures { λ r. ⌜ r ≡ pieceOf reply ⌝ }
 {
     match reply {
-        Reply::Data(_, _, _) | Reply::Crc(_, _) => CLASSIC,
-        _ => 1,
+        Reply::Fixed(_) => 1,
+        Reply::Data(_, _, _) => CLASSIC,
+        Reply::Crc(_, _) => CLASSIC,
     }
 }
 

@@ -13,12 +13,13 @@ ghost use Rattle.board.specs.Board.{extentOf};
 ghost use Rattle.board.specs.Quantities.{largestCount};
 ghost use Rattle.word_crc.specs.Words.{wordCrc};
 ghost use Rattle.memories.specs.Lent.{held, were};
-ghost use Rattle.memories.specs.Memories.{Memories, proper, bytesOf};
-ghost use Rattle.command.specs.Says.{replyRoom, ackByte, says, sayable, fixed, Said};
+ghost use Rattle.memories.specs.Memories.{proper, bytesOf};
+ghost use Rattle.command.specs.Says.{replyRoom, ackByte, tells, says, sayable, fixed, Said};
 ghost use Rattle.reply.specs.Fixed.{fixedRoom, listing, Holds, Lists};
 use board::Board;
 use board::Region;
 use command::Reply;
+use command::Told;
 use command::code;
 
 // A fixed reply: bytes, of which the first few are the reply, and how many these are.
@@ -158,40 +159,40 @@ fn say_data(
     }
 }
 
-// The bytes of a reply that tells nothing of a memory, given what the carrier tells of its commands.
-fn fixed_bytes(commands: Fixed, reply: Reply) -> Fixed
-    requires { ⌜ T (fixed reply) × Holds commands ⌝ }
-    ensures { λ r. ⌜ Holds r × ((list : List ℕ) → Lists commands list → (m : Memories) → take (r .count) (r .bytes) ≡ join (says list reply m)) ⌝ }
+// The bytes of what is told whatever the memories hold, given what the carrier tells of its commands.
+fn fixed_bytes(commands: Fixed, told: Told) -> Fixed
+    requires { ⌜ Holds commands ⌝ }
+    ensures { λ r. ⌜ Holds r × ((list : List ℕ) → Lists commands list → take (r .count) (r .bytes) ≡ join (tells list told)) ⌝ }
 {
-    match reply {
-        Reply::Ack => Fixed {
+    match told {
+        Told::Silence => Fixed {
+            bytes: [0; LONGEST],
+            count: 0,
+        },
+        Told::Ack => Fixed {
             bytes: [ACK; LONGEST],
             count: 1,
         },
-        Reply::AckAck => Fixed {
+        Told::AckAck => Fixed {
             bytes: [ACK; LONGEST],
             count: 2,
         },
-        Reply::Nack(_) => Fixed {
+        Told::Nack(_) => Fixed {
             bytes: [NACK; LONGEST],
             count: 1,
         },
-        Reply::AckNack(_) => Fixed {
+        Told::AckNack(_) => Fixed {
             bytes: ACK_NACK,
             count: 2,
         },
-        Reply::Commands => commands,
-        Reply::Version => Fixed {
+        Told::Commands => commands,
+        Told::Version => Fixed {
             bytes: VERSION,
             count: VERSION_LENGTH,
         },
-        Reply::DeviceId => Fixed {
+        Told::DeviceId => Fixed {
             bytes: DEVICE,
             count: DEVICE_LENGTH,
-        },
-        _ => Fixed {
-            bytes: [0; LONGEST],
-            count: 0,
         },
     }
 }
@@ -222,11 +223,11 @@ pub fn say(
     match reply {
         Reply::Data(region, at, x) => say_data(region, at, x, flash, sram, usd, buffer),
         Reply::Crc(at, n) => say_sum(flash, at, n, buffer),
-        _ => {
-            let told = fixed_bytes(commands, reply);
-            let bytes = told.bytes;
-            words::copy(buffer, 0, &bytes, 0, told.count);
-            told.count
+        Reply::Fixed(told) => {
+            let fixed = fixed_bytes(commands, told);
+            let bytes = fixed.bytes;
+            words::copy(buffer, 0, &bytes, 0, fixed.count);
+            fixed.count
         }
     }
 }

@@ -18,13 +18,14 @@ use Rattle.board.specs.declared.Sector.{Sector}
 use Rattle.board.specs.declared.View.{View}
 use Rattle.memories.specs.declared.Change.the-variants.{Write, EraseSectors, ProtectOnly, Release, Lock, Unlock}
 use Rattle.command.specs.Commands.{protected}
-use Rattle.command.specs.Decision.{if_gives_else_, answer, alter, nack, judged}
+use Rattle.command.specs.Decision.{if_gives_else_, answer, alter, show, nack, judged}
 use Rattle.command.specs.declared.Command.{Command}
 use Rattle.command.specs.declared.Decision.{Decision}
 use Rattle.command.specs.declared.Next.{Next}
 use Rattle.command.specs.declared.Next.the-variants.{Reset, GoIdle, Run}
-use Rattle.command.specs.declared.Reply.{Reply}
-use Rattle.command.specs.declared.Reply.the-variants.{Ack, AckAck, Data, Crc}
+use Rattle.command.specs.declared.Reply.the-variants.{Data, Crc}
+use Rattle.command.specs.declared.Told.{Told}
+use Rattle.command.specs.declared.Told.the-variants.{Ack, AckAck}
 use Rattle.command.specs.declared.Verdict.{Verdict}
 use Rattle.command.specs.declared.Verdict.the-variants.{Fine, No}
 use Rattle.command.specs.declared.Why.the-variants.{AccessProtected, BadAddress, BadRange, BadSector, WriteProtected, UnsupportedErase}
@@ -36,12 +37,12 @@ unfoldable pub unlessProtected : View → Command → Decision → Decision
 unlessProtected view c d = if view .locked && protected c gives nack AccessProtected else d
 
 -- 0x00, 0x01 and 0x02 are answered at once
-abbrev pub telling : Reply → Decision
-telling r = answer r GoIdle
+abbrev pub telling : Told → Decision
+telling t = answer t GoIdle
 
 -- 0x11: an address in no region, and a range that leaves its region, are refused
 unfoldable pub readAt : Place → ℕ → Decision
-readAt (In r at) x = answer (Data r at x) GoIdle
+readAt (In r at) x = show (Data r at x)
 readAt Nowhere x = nack BadRange
 
 unfoldable pub reading : Address → ℕ → Decision
@@ -133,7 +134,7 @@ jumping a = if jumpable a gives answer Ack (Run (a .0)) else nack BadAddress
 
 -- 0xAC: whole sectors, from a sector's start, all inside flash (a sector's start is never in SRAM or USD)
 unfoldable pub sumAt : Place → ℕ → Decision
-sumAt (In Flash at) n = answer (Crc at n) GoIdle
+sumAt (In Flash at) n = show (Crc at n)
 sumAt (In Sram at) n = nack BadRange
 sumAt (In Usd at) n = nack BadRange
 sumAt Nowhere n = nack BadRange

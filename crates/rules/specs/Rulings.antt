@@ -9,11 +9,12 @@ use Rattle.board.specs.declared.Region.the-variants.{Flash, Sram, Usd}
 use Rattle.board.specs.declared.View.{View}
 use Rattle.memories.specs.Memories.{freshUsd}
 use Rattle.memories.specs.declared.Change.the-variants.{Write, EraseAll, EraseSectors, ProtectOnly}
-use Rattle.command.specs.Decision.{answer, alter, nack, judged}
+use Rattle.command.specs.Decision.{answer, alter, show, nack, judged}
 use Rattle.command.specs.declared.Command.the-variants.{ReadMemory, FirmwareCrc}
 use Rattle.command.specs.declared.Decision.{Decision}
 use Rattle.command.specs.declared.Next.the-variants.{Reset, GoIdle, Run}
-use Rattle.command.specs.declared.Reply.the-variants.{Ack, Data, Crc}
+use Rattle.command.specs.declared.Reply.the-variants.{Data, Crc}
+use Rattle.command.specs.declared.Told.the-variants.{Ack}
 use Rattle.command.specs.declared.Why.the-variants.{AccessProtected, BadAddress, BadRange, BadSector, WriteProtected, UnsupportedErase}
 use Rattle.rules.specs.Rules.{unlessProtected, reading, writing, erasing, eraseAllVerdict, protecting, resetting, jumping, summing}
 
@@ -53,10 +54,10 @@ rulings =
     (unlessProtected locked ReadMemory resetting is nack AccessProtected)
     ∷ (unlessProtected locked FirmwareCrc resetting is resetting)
     ∷ (unlessProtected fresh ReadMemory resetting is resetting)
-    ∷ (reading (address 0x08000000) 4 is answer (Data Flash 0 4) GoIdle)
-    ∷ (reading (address 0x20001FFF) 1 is answer (Data Sram 8191 1) GoIdle)
+    ∷ (reading (address 0x08000000) 4 is show (Data Flash 0 4))
+    ∷ (reading (address 0x20001FFF) 1 is show (Data Sram 8191 1))
     ∷ (reading (address 0x20001FFF) 2 is nack BadRange)
-    ∷ (reading (address 0x1FFFF83F) 1 is answer (Data Usd 63 1) GoIdle)
+    ∷ (reading (address 0x1FFFF83F) 1 is show (Data Usd 63 1))
     ∷ (reading (address 0x07FFFFFF) 1 is nack BadAddress)
     ∷ (writing fresh (address 0x080003FF) 2 is alter Ack (Write Flash 1023 2) GoIdle)
     ∷ (writing oneProtected (address 0x080003FF) 2 is nack WriteProtected)
@@ -76,7 +77,7 @@ rulings =
     ∷ (protecting (hex "00 20") 2 is nack BadSector)
     ∷ (jumping (address 0x20000000) is answer Ack (Run 0x20000000))
     ∷ (jumping (address 0x1FFFF800) is nack BadAddress)
-    ∷ (summing (address 0x08007C00) 1 is answer (Crc 31744 1024) GoIdle)
+    ∷ (summing (address 0x08007C00) 1 is show (Crc 31744 1024))
     ∷ (summing (address 0x08007C00) 2 is nack BadRange)
     ∷ (summing (address 0x08007C01) 1 is nack BadAddress)
     ∷ []

@@ -21,8 +21,7 @@ use Rattle.command.specs.declared.Lookup.{Lookup}
 use Rattle.command.specs.declared.Lookup.the-variants.{Known, Unknown}
 use Rattle.command.specs.declared.Next.{Next}
 use Rattle.command.specs.declared.Next.the-variants.{Stay, Reset, Gather, GoIdle, SetSpeed, Enter, EnterAt, Run}
-use Rattle.command.specs.declared.Reply.{Reply}
-use Rattle.command.specs.declared.Reply.the-variants.{Silence, Ack, AckAck, Nack, AckNack, Commands, Version, DeviceId, Data, Crc}
+use Rattle.command.specs.declared.Told.{Told}
 use Rattle.command.specs.declared.Why.{Why}
 use Rattle.rules.specs.Rules.{unlocking, summing}
 use Rattle.uart.specs.Steps as U
@@ -114,25 +113,13 @@ pub record Discreet (c : Carrier) (d : Decision) : Type 0 where
   pub calm : T (calmNext c (d .next))
 
 module _ (c : Carrier) where
-  -- a fixed reply, and no change
-  told : {r : Reply} {n : Next} → T (fixed r) → T (calmNext c n) → Holds (Discreet c) (answer r n)
-  told {r} h k = record { holds = record { quiet = quiet r h; harmless = tt; fixed = λ o. h; calm = k } }
-    where
-      quiet : (r : Reply) → T (fixed r) → T (not (reads r))
-      quiet Silence h = tt
-      quiet Ack h = tt
-      quiet AckAck h = tt
-      quiet (Nack w) h = tt
-      quiet (AckNack w) h = tt
-      quiet Commands h = tt
-      quiet Version h = tt
-      quiet DeviceId h = tt
-      quiet (Data r at x) h = absurd h
-      quiet (Crc at n) h = tt
+  -- what is told, and no change
+  told : {t : Told} {n : Next} → T (calmNext c n) → Holds (Discreet c) (answer t n)
+  told k = record { holds = record { quiet = tt; harmless = tt; fixed = λ o. tt; calm = k } }
 
   -- a refusal
   refusal : (w : Why) → Holds (Discreet c) (nack w)
-  refusal w = told tt tt
+  refusal w = told tt
 
   -- Access Unprotect
   unlocking-discreet : Holds (Discreet c) unlocking
@@ -147,9 +134,9 @@ module _ (c : Carrier) where
 
 uart-obeyed : (k : Command) → T (not (protected k)) → Holds (Discreet Uart) (UC.obeyed k)
 unfolding UC.obeyed
-uart-obeyed GetCommands h = told Uart tt tt
-uart-obeyed GetVersion h = told Uart tt tt
-uart-obeyed GetDeviceId h = told Uart tt tt
+uart-obeyed GetCommands h = told Uart tt
+uart-obeyed GetVersion h = told Uart tt
+uart-obeyed GetDeviceId h = told Uart tt
 uart-obeyed ReadMemory h = absurd h
 uart-obeyed Jump h = absurd h
 uart-obeyed WriteMemory h = absurd h
@@ -158,14 +145,14 @@ uart-obeyed ProgramProtect h = absurd h
 uart-obeyed ProgramUnprotect h = absurd h
 uart-obeyed AccessProtect h = absurd h
 uart-obeyed AccessUnprotect h = unlocking-discreet Uart
-uart-obeyed FirmwareCrc h = told Uart tt tt
-uart-obeyed ResetDevice h = told Uart tt tt
-uart-obeyed Speed h = told Uart tt tt
+uart-obeyed FirmwareCrc h = told Uart tt
+uart-obeyed ResetDevice h = told Uart tt
+uart-obeyed Speed h = told Uart tt
 
 uart-commanded : (view : View) → T (view .locked) → (k : Lookup) → Holds (Discreet Uart) (UC.commanded view k)
 unfolding UC.commanded
 uart-commanded view l (Known k) = unless-locked (Discreet Uart) view k l (refusal Uart) (uart-obeyed k)
-uart-commanded view l Unknown = told Uart tt tt
+uart-commanded view l Unknown = told Uart tt
 
 uart-complete : (s : US.Step) → T (calmOnUart s) → (e a : ℕ) (bytes : List ℕ) (view : View) → T (view .locked)
     → Holds (Discreet Uart) (UC.complete s e a bytes view)
@@ -175,7 +162,7 @@ uart-complete US.Step.ReadAddress h e a bytes view l = absurd h
 uart-complete US.Step.JumpAddress h e a bytes view l = absurd h
 uart-complete US.Step.WriteAddress h e a bytes view l = absurd h
 uart-complete US.Step.CrcAddress h e a bytes view l =
-    either (Discreet Uart) _ (either (Discreet Uart) _ (told Uart tt tt) (refusal Uart _)) (refusal Uart _)
+    either (Discreet Uart) _ (either (Discreet Uart) _ (told Uart tt) (refusal Uart _)) (refusal Uart _)
 uart-complete US.Step.ReadLength h e a bytes view l = absurd h
 uart-complete US.Step.WriteLength h e a bytes view l = absurd h
 uart-complete US.Step.WriteData h e a bytes view l = absurd h
@@ -190,15 +177,15 @@ uart-complete US.Step.CrcCount h e a bytes view l =
 uart-heard : (s : US.Step) → T (calmOnUart s) → (p : Progress) (view : View) (b : ℕ) → T (view .locked)
     → Holds (Discreet Uart) (UC.heard s p view b)
 unfolding UC.heard
-uart-heard s h p view b l = either (Discreet Uart) _ (told Uart tt tt) (uart-complete s h _ _ _ view l)
+uart-heard s h p view b l = either (Discreet Uart) _ (told Uart tt) (uart-complete s h _ _ _ view l)
 
 -- ---- CAN
 
 can-obeyed : (view : View) (d : List ℕ) (k : Command) → T (not (protected k)) → Holds (Discreet Can) (CC.obeyed view d k)
 unfolding CC.obeyed
-can-obeyed view d GetCommands h = told Can tt tt
-can-obeyed view d GetVersion h = told Can tt tt
-can-obeyed view d GetDeviceId h = told Can tt tt
+can-obeyed view d GetCommands h = told Can tt
+can-obeyed view d GetVersion h = told Can tt
+can-obeyed view d GetDeviceId h = told Can tt
 can-obeyed view d ReadMemory h = absurd h
 can-obeyed view d Jump h = absurd h
 can-obeyed view d WriteMemory h = absurd h
@@ -208,14 +195,14 @@ can-obeyed view d ProgramUnprotect h = absurd h
 can-obeyed view d AccessProtect h = absurd h
 can-obeyed view d AccessUnprotect h = unlocking-discreet Can
 can-obeyed view d FirmwareCrc h = summing-discreet Can _ _
-can-obeyed view d ResetDevice h = told Can tt tt
-can-obeyed view d Speed h = either (Discreet Can) _ (told Can tt tt) (refusal Can _)
+can-obeyed view d ResetDevice h = told Can tt
+can-obeyed view d Speed h = either (Discreet Can) _ (told Can tt) (refusal Can _)
 
 can-commanded : (view : View) (d : List ℕ) → T (view .locked) → (k : Lookup) → Holds (Discreet Can) (CC.commanded view d k)
 unfolding CC.commanded
 can-commanded view d l (Known k) =
     either (Discreet Can) _ (unless-locked (Discreet Can) view k l (refusal Can) (can-obeyed view d k)) (refusal Can _)
-can-commanded view d l Unknown = told Can tt tt
+can-commanded view d l Unknown = told Can tt
 
 can-heard : (s : CS.Step) → T (calmOnCan s) → (p : Progress) (view : View) (f : Frame) → T (view .locked)
     → Holds (Discreet Can) (CC.heard s p view f)
@@ -247,12 +234,12 @@ calm-can s h o =
 connected-discreet : (c : Carrier) (s : Session) (calls : Bool) {d : Decision} → (T (on c s) → Holds (Discreet c) d)
     → Holds (Discreet c) (connected c s calls d)
 unfolding connected
-connected-discreet c s calls f = split (Discreet c) (on c s) f (λ n. either (Discreet c) _ (told c tt tt) (told c tt tt))
+connected-discreet c s calls f = split (Discreet c) (on c s) f (λ n. either (Discreet c) _ (told c tt) (told c tt))
 
 pub decide-discreet : (i : Input) (s : Session) (view : View) → T (view .locked) → T (calm s)
     → Holds (Discreet (carrierOf i)) (decide i s view)
 unfolding decide decideByte decideFrame
-decide-discreet Power s view l h = told None tt tt
+decide-discreet Power s view l h = told None tt
 decide-discreet (Byte room b) s view l h =
     connected-discreet Uart s _ (λ o. uart-heard (U.stepOf (s .step)) (calm-uart s h o) (progress s) view b l)
 decide-discreet (Framed room f) s view l h =

@@ -31,7 +31,8 @@ use Rattle.command.specs.declared.Lookup.the-variants.{Known, Unknown}
 use Rattle.command.specs.declared.Next.{Next}
 use Rattle.command.specs.declared.Next.the-variants.{Stay, Reset, Gather, GoIdle, SetSpeed, Enter, EnterAt, Run}
 use Rattle.command.specs.declared.Reply.{Reply}
-use Rattle.command.specs.declared.Reply.the-variants.{Silence, Ack, AckAck, Nack, AckNack, Commands, Version, DeviceId, Data, Crc}
+use Rattle.command.specs.declared.Reply.the-variants.{Fixed, Data, Crc}
+use Rattle.command.specs.declared.Told.the-variants.{Silence, Ack, AckAck, Nack, AckNack, Commands, Version, DeviceId}
 use Rattle.command.specs.declared.Why.{Why}
 use Rattle.command.proofs.Holds.{Holds, either, split, judged-either}
 use Rattle.rules.specs.Rules.{readAt, reading, writeAt, writing, selectorOf, erasing, protecting, jumping, sumAt, summing}
@@ -90,14 +91,14 @@ enters n (Run a) = false
 
 -- something is answered
 abbrev speaks : Reply → Bool
-speaks Silence = false
-speaks Ack = true
-speaks AckAck = true
-speaks (Nack w) = true
-speaks (AckNack w) = true
-speaks Commands = true
-speaks Version = true
-speaks DeviceId = true
+speaks (Fixed Silence) = false
+speaks (Fixed Ack) = true
+speaks (Fixed AckAck) = true
+speaks (Fixed (Nack w)) = true
+speaks (Fixed (AckNack w)) = true
+speaks (Fixed Commands) = true
+speaks (Fixed Version) = true
+speaks (Fixed DeviceId) = true
 speaks (Data r at x) = true
 speaks (Crc at n) = true
 
@@ -306,7 +307,7 @@ module _ (s : Session) (t : T (sound s)) (o : T (on Uart s)) (view : View) (b : 
   byte-makes =
       split Makes (on Uart s)
       (λ u. split Makes (short (progress s) (b ∷ []))
-      (λ m. record { holds = gather-comes s b Silence o (ltb→lt (s .taken + 1) (s .expected) m) })
+      (λ m. record { holds = gather-comes s b (Fixed Silence) o (ltb→lt (s .taken + 1) (s .expected) m) })
       (λ m. end-makes
       (complete-goes (stepOf (s .step)) (s .expected) (s .address) (stagedWith (progress s) (b ∷ [])) view (uart-expects s t o) only-byte)))
       (λ u. absurd (T-not (on Uart s) u o))
@@ -314,14 +315,14 @@ module _ (s : Session) (t : T (sound s)) (o : T (on Uart s)) (view : View) (b : 
 -- a reply that says something has a byte
 some-bytes : (room b : ℕ) (s : Session) (r : Reply) (m : Memories) → T (speaks r) → 0 < length (sent (Byte room b) s (says UC.commandBytes r m))
 unfolding sent says
-some-bytes room b s Silence m h = absurd h
-some-bytes room b s Ack m h = lit< tt
-some-bytes room b s AckAck m h = lit< tt
-some-bytes room b s (Nack w) m h = lit< tt
-some-bytes room b s (AckNack w) m h = lit< tt
-some-bytes room b s Commands m h = lit< tt
-some-bytes room b s Version m h = lit< tt
-some-bytes room b s DeviceId m h = lit< tt
+some-bytes room b s (Fixed Silence) m h = absurd h
+some-bytes room b s (Fixed Ack) m h = lit< tt
+some-bytes room b s (Fixed AckAck) m h = lit< tt
+some-bytes room b s (Fixed (Nack w)) m h = lit< tt
+some-bytes room b s (Fixed (AckNack w)) m h = lit< tt
+some-bytes room b s (Fixed Commands) m h = lit< tt
+some-bytes room b s (Fixed Version) m h = lit< tt
+some-bytes room b s (Fixed DeviceId) m h = lit< tt
 some-bytes room b s (Data r at x) m h = zero-lt-suc _
 some-bytes room b s (Crc at n) m h = zero-lt-suc _
 

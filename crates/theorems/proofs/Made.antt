@@ -15,7 +15,7 @@ use Rattle.board.specs.declared.Region.the-variants.{Flash, Sram, Usd}
 use Rattle.board.specs.declared.View.{View}
 use Rattle.memories.specs.declared.Change.the-variants.{Write, EraseAll, EraseSectors, ProtectOnly}
 use Rattle.command.specs.Commands.{code, uartCommands, canCommands, lookUp}
-use Rattle.command.specs.Decision.{if_gives_else_, answer, alter, nack}
+use Rattle.command.specs.Decision.{if_gives_else_, answer, alter, show, nack}
 use Rattle.command.specs.Progress.{Progress, stagedWith, short}
 use Rattle.command.specs.declared.Command.{Command}
 use Rattle.command.specs.declared.Command.the-variants.{GetCommands, GetVersion, GetDeviceId, ReadMemory, Jump, WriteMemory, Erase, ProgramProtect, ProgramUnprotect, AccessProtect, AccessUnprotect, FirmwareCrc, ResetDevice, Speed}
@@ -24,8 +24,9 @@ use Rattle.command.specs.declared.Lookup.{Lookup}
 use Rattle.command.specs.declared.Lookup.the-variants.{Known, Unknown}
 use Rattle.command.specs.declared.Next.{Next}
 use Rattle.command.specs.declared.Next.the-variants.{GoIdle, Reset}
-use Rattle.command.specs.declared.Reply.{Reply}
-use Rattle.command.specs.declared.Reply.the-variants.{Silence, Ack, AckAck, Nack, AckNack, Commands, Version, DeviceId, Data, Crc}
+use Rattle.command.specs.declared.Reply.the-variants.{Data, Crc}
+use Rattle.command.specs.declared.Told.{Told}
+use Rattle.command.specs.declared.Told.the-variants.{Silence, Ack, AckAck, Nack, AckNack, Commands, Version, DeviceId}
 use Rattle.command.specs.declared.Verdict.{Verdict}
 use Rattle.command.specs.declared.Verdict.the-variants.{Fine, No}
 use Rattle.command.specs.declared.Why.{Why}
@@ -49,8 +50,8 @@ use Rattle.command.proofs.Holds.{Holds, either, split, judged-either}
 use Rattle.rules.proofs.Unless.{unless-either}
 use Rattle.theorems.proofs.InStep.{uart-step, can-step}
 
--- a reply that several commands are given
-abbrev pub common : Reply → Bool
+-- what several commands are told
+abbrev pub common : Told → Bool
 common Silence = true
 common Ack = true
 common AckAck = true
@@ -59,12 +60,10 @@ common (AckNack w) = false
 common Commands = true
 common Version = true
 common DeviceId = true
-common (Data r at x) = false
-common (Crc at n) = false
 
 -- what has to be shown of such answers and of each change, Access Unprotect apart
 pub record Parts (P : Decision → Type 0) : Type 0 where
-  pub told : {r : Reply} {n : Next} → T (common r) → Holds P (answer r n)
+  pub told : {t : Told} {n : Next} → T (common t) → Holds P (answer t n)
   pub written : (r : Region) (at x : ℕ) → Holds P (alter Ack (Write r at x) (afterWrite r))
   pub erased : (x : ℕ) → Holds P (alter Ack (EraseSectors x) GoIdle)
   pub cleared : Holds P (alter Ack EraseAll GoIdle)
@@ -76,8 +75,8 @@ pub record Parts (P : Decision → Type 0) : Type 0 where
 -- and of what only Access Unprotect does, and only Read Memory, Firmware CRC and a special erase are answered, each where that command ends
 pub record Sole (P : Decision → Type 0) (unprotects reads sums erases : Type 0) : Type 0 where
   pub unlocked : unprotects → Holds P unlocking
-  pub read : reads → (r : Region) (at x : ℕ) → Holds P (answer (Data r at x) GoIdle)
-  pub summed : sums → (at n : ℕ) → Holds P (answer (Crc at n) GoIdle)
+  pub read : reads → (r : Region) (at x : ℕ) → Holds P (show (Data r at x))
+  pub summed : sums → (at n : ℕ) → Holds P (show (Crc at n))
   pub halved : erases → (w : Why) → Holds P (answer (AckNack w) GoIdle)
 
 -- a byte is the last that a step of this number expects
@@ -112,7 +111,7 @@ OnInput P (Framed room l) s = T (on Can s) → OnCan P (C.stepOf (s .step)) (fra
 -- ---- Firmware CRC, and a command that is looked up
 
 module _ (P : Decision → Type 0) where
-  module _ (refusal : (w : Why) → Holds P (nack w)) (sum : (at n : ℕ) → Holds P (answer (Crc at n) GoIdle)) where
+  module _ (refusal : (w : Why) → Holds P (nack w)) (sum : (at n : ℕ) → Holds P (show (Crc at n))) where
     sum-made : (q : Place) (n : ℕ) → Holds P (sumAt q n)
     unfolding sumAt
     sum-made (In Flash at) n = sum at n
@@ -143,7 +142,7 @@ module _ (P : Decision → Type 0) (b : Parts P) where
 
   -- ---- the rules
 
-  module _ (read : (r : Region) (at x : ℕ) → Holds P (answer (Data r at x) GoIdle)) where
+  module _ (read : (r : Region) (at x : ℕ) → Holds P (show (Data r at x))) where
     read-made : (q : Place) (x : ℕ) → Holds P (readAt q x)
     unfolding readAt
     read-made (In r at) x = read r at x

@@ -19,7 +19,7 @@ use Rattle.command.specs.Progress.{stagedWith}
 use Rattle.command.specs.Says.{says, fixed}
 use Rattle.command.specs.declared.Decision.{Decision}
 use Rattle.command.specs.declared.Reply.{Reply}
-use Rattle.command.specs.declared.Reply.the-variants.{Silence, Ack, AckAck, Nack, AckNack, Commands, Version, DeviceId, Data, Crc}
+use Rattle.command.specs.declared.Reply.the-variants.{Fixed, Data, Crc}
 use Rattle.frames.specs.Frames.{classic, isFrame}
 use Rattle.uart.specs.Conversation.{uartRoom}
 use Rattle.can.specs.Conversation.{canRoom}
@@ -50,14 +50,7 @@ itself = record { shown = refl; long = refl; left = λ before. refl }
 pub shows-nothing : (i : Input) (s : Session) (r : Reply) → T (not (reads r)) → (m n : Memories)
     → Hides i r (sent i s (says (commandsOf i) r m)) (sent i s (says (commandsOf i) r n))
 unfolding says sent
-shows-nothing i s Silence h m n = itself
-shows-nothing i s Ack h m n = itself
-shows-nothing i s AckAck h m n = itself
-shows-nothing i s (Nack w) h m n = itself
-shows-nothing i s (AckNack w) h m n = itself
-shows-nothing i s Commands h m n = itself
-shows-nothing i s Version h m n = itself
-shows-nothing i s DeviceId h m n = itself
+shows-nothing i s (Fixed t) h m n = itself
 shows-nothing i s (Data r at x) h m n = absurd h
 shows-nothing Power s (Crc at x) h m n = itself
 shows-nothing (Byte room b) s (Crc at x) h m n = record { shown = refl; long = refl; left = λ before. refl }
@@ -66,14 +59,7 @@ shows-nothing (Framed room f) s (Crc at x) h m n = record { shown = refl; long =
 -- a fixed reply is the same whatever the memories hold
 says-alike : (k : List ℕ) (r : Reply) → T (fixed r) → (m n : Memories) → says k r m ≡ says k r n
 unfolding says
-says-alike k Silence h m n = refl
-says-alike k Ack h m n = refl
-says-alike k AckAck h m n = refl
-says-alike k (Nack w) h m n = refl
-says-alike k (AckNack w) h m n = refl
-says-alike k Commands h m n = refl
-says-alike k Version h m n = refl
-says-alike k DeviceId h m n = refl
+says-alike k (Fixed t) h m n = refl
 says-alike k (Data r at x) h m n = absurd h
 says-alike k (Crc at x) h m n = absurd h
 

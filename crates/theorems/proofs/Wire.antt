@@ -21,7 +21,9 @@ use Rattle.command.specs.declared.Decision.{Decision}
 use Rattle.command.specs.declared.Lookup.the-variants.{Known}
 use Rattle.command.specs.declared.Next.{Next}
 use Rattle.command.specs.declared.Reply.{Reply}
-use Rattle.command.specs.declared.Reply.the-variants.{Silence, Ack, AckAck, Nack, AckNack, Commands, Version, DeviceId, Data, Crc}
+use Rattle.command.specs.declared.Reply.the-variants.{Fixed, Data, Crc}
+use Rattle.command.specs.declared.Told.{Told}
+use Rattle.command.specs.declared.Told.the-variants.{Silence, Ack, AckAck, Nack, AckNack, Commands, Version, DeviceId}
 use Rattle.command.specs.declared.Why.{Why}
 use Rattle.rules.specs.Rules.{summing}
 use Rattle.uart.specs.Conversation as UC
@@ -64,7 +66,7 @@ pub replied : (i : Input) (p : State) → call i p .reply ≡ sentWith (p .memor
 unfolding call done perform if_gives_else_ sent says
 replied i p = by-test (accepts (causeFor i p)) (decide i (p .session) (viewIn p))
   where
-    silent : (j : Input) → [] ≡ sent j (p .session) (says (commandsOf j) Silence (p .memories))
+    silent : (j : Input) → [] ≡ sent j (p .session) (says (commandsOf j) (Fixed Silence) (p .memories))
     silent Power = refl
     silent (Byte room b) = refl
     silent (Framed room l) = refl
@@ -84,14 +86,7 @@ isRead (Framed room l) s = inCan CS.Step.Idle s && eqb (frameIn l .id) 0x11
 
 -- a reply may be given to an input
 abbrev mayBe : Input → Session → Reply → Bool
-mayBe i s Silence = true
-mayBe i s Ack = true
-mayBe i s AckAck = true
-mayBe i s (Nack w) = true
-mayBe i s (AckNack w) = isErase i s
-mayBe i s Commands = true
-mayBe i s Version = true
-mayBe i s DeviceId = true
+mayBe i s (Fixed t) = common t || isErase i s
 mayBe i s (Data r at x) = isRead i s
 mayBe i s (Crc at n) = isSum i s
 
@@ -111,20 +106,8 @@ module _ (i : Input) (s : Session) where
     locked = record { holds = tt };
   }
     where
-      by-reply : (r : Reply) → T (common r) → T (mayBe i s r)
-      by-reply Silence h = tt
-      by-reply Ack h = tt
-      by-reply AckAck h = tt
-      by-reply (Nack w) h = tt
-      by-reply (AckNack w) h = absurd h
-      by-reply Commands h = tt
-      by-reply Version h = tt
-      by-reply DeviceId h = tt
-      by-reply (Data r at x) h = absurd h
-      by-reply (Crc at n) h = absurd h
-
-      told : {r : Reply} {n : Next} → T (common r) → Holds MayBe (answer r n)
-      told {r} h = record { holds = by-reply r h }
+      told : {t : Told} {n : Next} → T (common t) → Holds MayBe (answer t n)
+      told {t} h = record { holds = rw (holds-true (common t) h) tt }
 
 -- what is decided may be given, and so what is done
 decide-may : (i : Input) (s : Session) (view : View) → (T (isCall i) → T (sound s)) → Holds (MayBe i s) (decide i s view)
@@ -162,14 +145,14 @@ done-may i p = by-test (accepts (causeFor i p)) (λ c t. accepted-sound i p c t)
 
 -- a reply is a CRC value or a NACK
 abbrev valueOrNack : Reply → Bool
-valueOrNack Silence = false
-valueOrNack Ack = false
-valueOrNack AckAck = false
-valueOrNack (Nack w) = true
-valueOrNack (AckNack w) = false
-valueOrNack Commands = false
-valueOrNack Version = false
-valueOrNack DeviceId = false
+valueOrNack (Fixed Silence) = false
+valueOrNack (Fixed Ack) = false
+valueOrNack (Fixed AckAck) = false
+valueOrNack (Fixed (Nack w)) = true
+valueOrNack (Fixed (AckNack w)) = false
+valueOrNack (Fixed Commands) = false
+valueOrNack (Fixed Version) = false
+valueOrNack (Fixed DeviceId) = false
 valueOrNack (Data r at x) = false
 valueOrNack (Crc at n) = true
 
@@ -223,16 +206,16 @@ never false b f = refl
 sum-seen : (i : Input) (s : Session) (r : Reply) (m : Memories) → T (mayBe i s r) → (T (isSum i s) → T (valueOrNack r))
     → (isSum i s && beginsWithAck i (saying i s r m)) ≡ sums r
 unfolding says sent
-sum-seen i s Silence m h f = never (isSum i s) _ f
-sum-seen i s Ack m h f = never (isSum i s) _ f
-sum-seen i s AckAck m h f = never (isSum i s) _ f
-sum-seen Power s (Nack w) m h f = refl
-sum-seen (Byte room b) s (Nack w) m h f = and-false (isSum (Byte room b) s)
-sum-seen (Framed room l) s (Nack w) m h f = and-false (isSum (Framed room l) s)
-sum-seen i s (AckNack w) m h f = never (isSum i s) _ f
-sum-seen i s Commands m h f = never (isSum i s) _ f
-sum-seen i s Version m h f = never (isSum i s) _ f
-sum-seen i s DeviceId m h f = never (isSum i s) _ f
+sum-seen i s (Fixed Silence) m h f = never (isSum i s) _ f
+sum-seen i s (Fixed Ack) m h f = never (isSum i s) _ f
+sum-seen i s (Fixed AckAck) m h f = never (isSum i s) _ f
+sum-seen Power s (Fixed (Nack w)) m h f = refl
+sum-seen (Byte room b) s (Fixed (Nack w)) m h f = and-false (isSum (Byte room b) s)
+sum-seen (Framed room l) s (Fixed (Nack w)) m h f = and-false (isSum (Framed room l) s)
+sum-seen i s (Fixed (AckNack w)) m h f = never (isSum i s) _ f
+sum-seen i s (Fixed Commands) m h f = never (isSum i s) _ f
+sum-seen i s (Fixed Version) m h f = never (isSum i s) _ f
+sum-seen i s (Fixed DeviceId) m h f = never (isSum i s) _ f
 sum-seen i s (Data r at x) m h f = never (isSum i s) _ f
 sum-seen Power s (Crc at n) m h f = absurd h
 sum-seen (Byte room b) s (Crc at n) m h f = rw (holds-true (isSum (Byte room b) s) h) refl
@@ -265,27 +248,27 @@ record Tells (i : Input) (s : Session) (r : Reply) (l : List ℕ) : Type 0 where
 reply-seen : (i : Input) → T (isCall i) → (s : Session) (r : Reply) (m : Memories) → T (mayBe i s r) → Tells i s r (saying i s r m)
 unfolding says sent
 reply-seen Power c s r m h = absurd c
-reply-seen (Byte room b) c s Silence m h = record { nack = refl; ack = λ f. refl }
-reply-seen (Byte room b) c s Ack m h = record { nack = refl; ack = λ f. refl }
-reply-seen (Byte room b) c s AckAck m h = record { nack = refl; ack = λ f. refl }
-reply-seen (Byte room b) c s (Nack w) m h = record { nack = refl; ack = λ f. refl }
-reply-seen (Byte room b) c s (AckNack w) m h = absurd h
-reply-seen (Byte room b) c s Commands m h = record { nack = refl; ack = λ f. refl }
-reply-seen (Byte room b) c s Version m h = record { nack = refl; ack = λ f. refl }
-reply-seen (Byte room b) c s DeviceId m h = record { nack = refl; ack = λ f. refl }
+reply-seen (Byte room b) c s (Fixed Silence) m h = record { nack = refl; ack = λ f. refl }
+reply-seen (Byte room b) c s (Fixed Ack) m h = record { nack = refl; ack = λ f. refl }
+reply-seen (Byte room b) c s (Fixed AckAck) m h = record { nack = refl; ack = λ f. refl }
+reply-seen (Byte room b) c s (Fixed (Nack w)) m h = record { nack = refl; ack = λ f. refl }
+reply-seen (Byte room b) c s (Fixed (AckNack w)) m h = absurd h
+reply-seen (Byte room b) c s (Fixed Commands) m h = record { nack = refl; ack = λ f. refl }
+reply-seen (Byte room b) c s (Fixed Version) m h = record { nack = refl; ack = λ f. refl }
+reply-seen (Byte room b) c s (Fixed DeviceId) m h = record { nack = refl; ack = λ f. refl }
 reply-seen (Byte room b) c s (Data r at x) m h = record {
   nack = lone-nack (Byte room b) s (saying (Byte room b) s (Data r at x) m) (λ k. k);
   ack = λ f. absurd (f h);
 }
 reply-seen (Byte room b) c s (Crc at n) m h = record { nack = lone-nack (Byte room b) s (saying (Byte room b) s (Crc at n) m) (λ k. k); ack = λ f. refl }
-reply-seen (Framed room l) c s Silence m h = record { nack = refl; ack = λ f. refl }
-reply-seen (Framed room l) c s Ack m h = record { nack = refl; ack = λ f. refl }
-reply-seen (Framed room l) c s AckAck m h = record { nack = refl; ack = λ f. refl }
-reply-seen (Framed room l) c s (Nack w) m h = record { nack = refl; ack = λ f. refl }
-reply-seen (Framed room l) c s (AckNack w) m h = record { nack = holds-true (isErase (Framed room l) s) h; ack = λ f. refl }
-reply-seen (Framed room l) c s Commands m h = record { nack = refl; ack = λ f. refl }
-reply-seen (Framed room l) c s Version m h = record { nack = refl; ack = λ f. refl }
-reply-seen (Framed room l) c s DeviceId m h = record { nack = refl; ack = λ f. refl }
+reply-seen (Framed room l) c s (Fixed Silence) m h = record { nack = refl; ack = λ f. refl }
+reply-seen (Framed room l) c s (Fixed Ack) m h = record { nack = refl; ack = λ f. refl }
+reply-seen (Framed room l) c s (Fixed AckAck) m h = record { nack = refl; ack = λ f. refl }
+reply-seen (Framed room l) c s (Fixed (Nack w)) m h = record { nack = refl; ack = λ f. refl }
+reply-seen (Framed room l) c s (Fixed (AckNack w)) m h = record { nack = holds-true (isErase (Framed room l) s) h; ack = λ f. refl }
+reply-seen (Framed room l) c s (Fixed Commands) m h = record { nack = refl; ack = λ f. refl }
+reply-seen (Framed room l) c s (Fixed Version) m h = record { nack = refl; ack = λ f. refl }
+reply-seen (Framed room l) c s (Fixed DeviceId) m h = record { nack = refl; ack = λ f. refl }
 reply-seen (Framed room l) c s (Data r at x) m h = record {
   nack = lone-nack (Framed room l) s (saying (Framed room l) s (Data r at x) m) (read-no-erase (Framed room l) s h);
   ack = λ f. absurd (f h);

@@ -20,7 +20,8 @@ use Rattle.memories.specs.Memories.{Memories, bytesOf, proper}
 use Rattle.command.specs.Progress.{stagedWith}
 use Rattle.command.specs.Says.{says}
 use Rattle.command.specs.declared.Reply.{Reply}
-use Rattle.command.specs.declared.Reply.the-variants.{Silence, Ack, AckAck, Nack, AckNack, Commands, Version, DeviceId, Data, Crc}
+use Rattle.command.specs.declared.Reply.the-variants.{Fixed, Data, Crc}
+use Rattle.command.specs.declared.Told.the-variants.{Silence, Ack, AckAck, Nack, AckNack, Commands, Version, DeviceId}
 use Rattle.uart.specs.Steps as U
 use Rattle.uart.specs.declared.Step as US
 use Rattle.can.specs.Steps as C
@@ -135,14 +136,7 @@ pub record EraseAllOrNothing : Type 0 where
 
 -- a reply holds bytes of a memory
 abbrev pub reads : Reply → Bool
-reads Silence = false
-reads Ack = false
-reads AckAck = false
-reads (Nack w) = false
-reads (AckNack w) = false
-reads Commands = false
-reads Version = false
-reads DeviceId = false
+reads (Fixed t) = false
 reads (Data r at x) = true
 reads (Crc at n) = false
 
@@ -193,27 +187,27 @@ ExactlyNamed =
 
 -- a reply is one ACK
 abbrev pub acks : Reply → Bool
-acks Silence = false
-acks Ack = true
-acks AckAck = false
-acks (Nack w) = false
-acks (AckNack w) = false
-acks Commands = false
-acks Version = false
-acks DeviceId = false
+acks (Fixed Silence) = false
+acks (Fixed Ack) = true
+acks (Fixed AckAck) = false
+acks (Fixed (Nack w)) = false
+acks (Fixed (AckNack w)) = false
+acks (Fixed Commands) = false
+acks (Fixed Version) = false
+acks (Fixed DeviceId) = false
 acks (Data r at x) = false
 acks (Crc at n) = false
 
 -- a reply refuses
 abbrev pub refuses : Reply → Bool
-refuses Silence = false
-refuses Ack = false
-refuses AckAck = false
-refuses (Nack w) = true
-refuses (AckNack w) = true
-refuses Commands = false
-refuses Version = false
-refuses DeviceId = false
+refuses (Fixed Silence) = false
+refuses (Fixed Ack) = false
+refuses (Fixed AckAck) = false
+refuses (Fixed (Nack w)) = true
+refuses (Fixed (AckNack w)) = true
+refuses (Fixed Commands) = false
+refuses (Fixed Version) = false
+refuses (Fixed DeviceId) = false
 refuses (Data r at x) = false
 refuses (Crc at n) = false
 

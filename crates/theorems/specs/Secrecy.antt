@@ -16,7 +16,7 @@ use Rattle.memories.specs.Effects.{stagedBytes}
 use Rattle.memories.specs.declared.Change.{Change}
 use Rattle.memories.specs.declared.Change.the-variants.{Nothing, Write, EraseAll, EraseSectors, ProtectOnly, Release, Lock, Unlock}
 use Rattle.command.specs.declared.Reply.{Reply}
-use Rattle.command.specs.declared.Reply.the-variants.{Silence, Ack, AckAck, Nack, AckNack, Commands, Version, DeviceId, Data, Crc}
+use Rattle.command.specs.declared.Reply.the-variants.{Fixed, Data, Crc}
 use Rattle.uart.specs.Steps as U
 use Rattle.uart.specs.declared.Step as US
 use Rattle.can.specs.Steps as C
@@ -77,14 +77,7 @@ shut (i ∷ is) p = not (opens i p) && shut is (call i p .state)
 
 -- a reply holds a CRC value
 abbrev pub sums : Reply → Bool
-sums Silence = false
-sums Ack = false
-sums AckAck = false
-sums (Nack w) = false
-sums (AckNack w) = false
-sums Commands = false
-sums Version = false
-sums DeviceId = false
+sums (Fixed t) = false
 sums (Data r at x) = false
 sums (Crc at n) = true
 

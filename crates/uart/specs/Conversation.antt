@@ -21,7 +21,7 @@ use Rattle.command.specs.declared.Decision.{Decision}
 use Rattle.command.specs.declared.Lookup.{Lookup}
 use Rattle.command.specs.declared.Lookup.the-variants.{Known, Unknown}
 use Rattle.command.specs.declared.Next.the-variants.{Gather, GoIdle, Enter, EnterAt}
-use Rattle.command.specs.declared.Reply.the-variants.{Silence, Ack, Commands, Version, DeviceId}
+use Rattle.command.specs.declared.Told.the-variants.{Silence, Ack, Commands, Version, DeviceId}
 use Rattle.command.specs.declared.Why.the-variants.{BadComplement, UnknownCommand, BadChecksum, BadAddress, BadRange}
 use Rattle.rules.specs.Rules.{unlessProtected, telling, reading, writing, selectorOf, erasing, eraseAllVerdict, protecting, releasing, locking, unlocking, resetting, jumping, summing}
 use Rattle.rules.specs.declared.Selector.{Selector}

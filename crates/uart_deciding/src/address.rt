@@ -5,7 +5,7 @@ ghost use Rattle.board.specs.Regions.{known, sectorStart};
 ghost use Rattle.memories.specs.Effects.{stagedBytes};
 ghost use Rattle.command.specs.Decision.{if_gives_else_, answer, nack};
 ghost use Rattle.command.specs.declared.Next.the-variants.{EnterAt};
-ghost use Rattle.command.specs.declared.Reply.the-variants.{Ack};
+ghost use Rattle.command.specs.declared.Told.the-variants.{Ack};
 ghost use Rattle.command.specs.declared.Why.the-variants.{BadAddress, BadChecksum};
 ghost use Rattle.rules.specs.Rules.{jumping};
 ghost use Rattle.uart.specs.Steps.{stepNo};
@@ -13,7 +13,7 @@ ghost use Rattle.uart.specs.Conversation.{checks, addressed, keptIf};
 use board::Address;
 use command::Decision;
 use command::Next;
-use command::Reply;
+use command::Told;
 use command::Why;
 use deciding::sent;
 use uart::Step;
@@ -34,10 +34,7 @@ fn kept(good: bool, step: Step, expected: usize, address: Address) -> Decision
 {
     command::accept_if(
         good,
-        command::answer(
-            Reply::Ack,
-            Next::EnterAt(step.number(), expected, address.0),
-        ),
+        command::answer(Told::Ack, Next::EnterAt(step.number(), expected, address.0)),
         Why::BadAddress,
     )
 }

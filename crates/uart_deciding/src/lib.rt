@@ -13,14 +13,14 @@ ghost use Rattle.board.specs.View.{viewOf};
 ghost use Rattle.memories.specs.Effects.{stagedBytes};
 ghost use Rattle.command.specs.Decision.{if_gives_else_, answer};
 ghost use Rattle.command.specs.declared.Next.the-variants.{Gather};
-ghost use Rattle.command.specs.declared.Reply.the-variants.{Silence};
+ghost use Rattle.command.specs.declared.Told.the-variants.{Silence};
 ghost use Rattle.uart.specs.Steps.{stepOf, expects, complementedByte, oneByte, checkedCount, expectedFor, expectedForNumbers};
 ghost use Rattle.uart.specs.Conversation.{awaits, selected, complete};
 use board::Address;
 use board::View;
 use command::Decision;
 use command::Next;
-use command::Reply;
+use command::Told;
 use command::Why;
 use deciding::sent;
 use memories::Change;
@@ -36,7 +36,7 @@ fn awaits(step: Step, bytes: &[u8]) -> Decision
     ensures { λ r. ⌜ r ≡ awaits step (now (bytes .entry)) ⌝ }
 {
     command::answer(
-        Reply::Silence,
+        Told::Silence,
         Next::Enter(step.number(), sent::count_of(bytes[0]) + 1),
     )
 }
@@ -48,12 +48,12 @@ fn selected(selector: Selector) -> Decision
     match selector {
         Selector::Listed(sent) => {
             command::answer(
-                Reply::Silence,
+                Told::Silence,
                 Next::Enter(Step::EraseList.number(), 2 * sent.count() + 1),
             )
         }
         Selector::Special(number) => command::answer(
-            Reply::Silence,
+            Told::Silence,
             Next::EnterAt(Step::SpecialCheck.number(), uart::ONE_BYTE, number as u32),
         ),
         Selector::Impossible => command::nack(Why::BadRange),
@@ -114,7 +114,7 @@ fn special_ends(view: View, address: u32, bytes: &[u8]) -> Decision
         checksum::special_checks(address, bytes[0]),
         command::judged(
             list_deciding::erase::erase_all_verdict(view, address),
-            command::alter(Reply::Ack, Change::EraseAll, Next::GoIdle),
+            command::alter(Told::Ack, Change::EraseAll, Next::GoIdle),
         ),
         Why::BadChecksum,
     )
@@ -199,7 +199,7 @@ pub fn heard(
 {
     let more = taken + 1 < expected;
     if more {
-        command::answer(Reply::Silence, Next::Gather)
+        command::answer(Told::Silence, Next::Gather)
     } else {
         complete(Step::of(step), expected, address, bytes, view)
     }

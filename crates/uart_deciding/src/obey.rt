@@ -6,7 +6,7 @@ use command::Command;
 use command::Decision;
 use command::Lookup;
 use command::Next;
-use command::Reply;
+use command::Told;
 use command::Why;
 use command::code;
 use deciding::at_once;
@@ -28,7 +28,7 @@ pub fn look_up(byte: u8) -> Lookup
 fn go_on(step: Step, expected: usize) -> Decision
     ensures { λ r. ⌜ r ≡ goOn step expected ⌝ }
 {
-    command::answer(Reply::Ack, Next::Enter(step.number(), expected))
+    command::answer(Told::Ack, Next::Enter(step.number(), expected))
 }
 
 // A command's ACK, with what it asks for.
@@ -36,9 +36,9 @@ fn obeyed(command: Command) -> Decision
     ensures { λ r. ⌜ r ≡ obeyed command ⌝ }
 {
     match command {
-        Command::GetCommands => at_once::tell(Reply::Commands),
-        Command::GetVersion => at_once::tell(Reply::Version),
-        Command::GetDeviceId => at_once::tell(Reply::DeviceId),
+        Command::GetCommands => at_once::tell(Told::Commands),
+        Command::GetVersion => at_once::tell(Told::Version),
+        Command::GetDeviceId => at_once::tell(Told::DeviceId),
         Command::ReadMemory => go_on(Step::ReadAddress, uart::CHECKED_ADDRESS),
         Command::Jump => go_on(Step::JumpAddress, uart::CHECKED_ADDRESS),
         Command::WriteMemory => go_on(Step::WriteAddress, uart::CHECKED_ADDRESS),

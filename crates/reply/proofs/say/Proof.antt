@@ -15,7 +15,7 @@ use Rattle.memories.specs.Memories.{memories, bytesOf}
 use Rattle.memories.proofs.Memories.{proper-length}
 use Rattle.command.specs.Says.{says, fixed}
 use Rattle.command.proofs.Says.{data-there, crc-there}
-use Rattle.reply.proofs.Told.{rest-fixed, fixed-said}
+use Rattle.reply.proofs.Told.{fixed-said}
 use Rattle.reply.proofs.say.Statement.{statement}
 use Rattle.reply.proofs.say.Tie as tie
 
@@ -33,11 +33,6 @@ say-sum-requires c κs =
     let h = crc-there (start .args .reply) (start .pre .2) _ _ (after-reply2 .reply2 .given .1) in
     let l = proper-length (memories (start .args .flash .now) (start .args .sram .now) (start .args .usd .now)) (start .pre .1) Flash in
     (omega arith, omega arith)
-
-fixed-bytes-requires : tie.Need-fixed-bytes-requires
-fixed-bytes-requires c κs =
-    let start = c .before .before .before .before .before in
-    (rest-fixed (start .args .reply) (c .match .keys3), start .pre .0)
 
 returns : tie.Need-returns
 unfolding says
@@ -75,14 +70,16 @@ returns-2 c =
     )
 
 returns-3 : tie.Need-returns-3
+unfolding says
 returns-3 c =
     let after-copy = c .before .before in
     let after-fixed-bytes = after-copy .before .before .before .before in
-    let start = after-fixed-bytes .before .before .before .before .before .before in
+    let after-reply3 = after-fixed-bytes .before .before in
+    let start = after-reply3 .before .before .before .before .before .before in
     let r = after-fixed-bytes .fixed-bytes .result in
     let e = after-fixed-bytes .fixed-bytes .ensures in (
-      λ list t. fixed-said (r .bytes) _ (start .args .buffer .now) _ (r .count) (e .0 .there) (omega (arith, e .0 .there, e .0 .few))
-          (e .1 list t (memories (start .args .flash .now) (start .args .sram .now) (start .args .usd .now))) (after-copy .copy .ensures),
+      λ list t. rw (after-reply3 .reply3 .given .1) (fixed-said (r .bytes) _ (start .args .buffer .now) _ (r .count) (e .0 .there)
+          (omega (arith, e .0 .there, e .0 .few)) (e .1 list t) (after-copy .copy .ensures)),
       omega (arith, e .0 .there, e .0 .few),
       λ t. omega (arith, e .0 .there, e .0 .few),
     )
@@ -95,7 +92,8 @@ say-spec =
     say-data-requires
     (λ c. search needs)
     say-sum-requires
-    fixed-bytes-requires
+    (λ c. search needs)
+    (λ c κs. search needs)
     (λ c. search needs)
     (λ c κs. let e = c .before .before .before .fixed-bytes .ensures .0 in (omega (arith, e .there, e .few), omega (arith, e .there)))
     (λ c. search needs)

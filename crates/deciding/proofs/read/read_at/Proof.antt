@@ -13,5 +13,5 @@ read-at-spec =
     (λ c κs. search needs)
     (λ c. search needs)
     (λ c κs. search needs)
-    (λ c. rw (c .before .before .place .given .1) (c .answer .ensures))
+    (λ c. rw (c .before .before .place .given .1) (c .show .ensures))
     (λ c. rw (c .before .enum-told .given .1) (c .nack .ensures)))

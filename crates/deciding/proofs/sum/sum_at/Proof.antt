@@ -25,6 +25,6 @@ sum-at-spec =
     (λ c κs. search needs)
     (λ c. search needs)
     (λ c κs. search needs)
-    (λ c. rw (c .before .before .before .before .place .given .1, c .before .enum-told .given .1) (c .answer .ensures))
+    (λ c. rw (c .before .before .before .before .place .given .1, c .before .enum-told .given .1) (c .show .ensures))
     returns-2
     (λ c. rw (c .before .enum-told2 .given .1) (c .nack2 .ensures)))
