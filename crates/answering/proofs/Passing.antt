@@ -1,5 +1,6 @@
 -- Bytes that a session only gathers are taken at once: nothing is told of them, and the session is as if each had been taken by itself.
-use mathlib.Core.Path.{_≡_, refl, sym, ap, _∙_}
+use mathlib.Core.Path.{_≡_, refl, sym, ap, subst, _∙_}
+use mathlib.Core.Bool.{Bool}
 use mathlib.Core.List.{List, [], _∷_, _++_, map}
 use Prim.Native.Nat.{ℕ, suc, _+_, _-_, _*_, _≤_, _<_}
 use native.Mathlib.Omega.{arith}
@@ -7,7 +8,7 @@ use lib.Dec.{T}
 use lib.ListN.{length, take, drop, length-drop}
 use lib.Seq.{take-all, drop-drop}
 use Rattle.words.proofs.Slices.{to-the-end}
-use Rattle.memories.specs.Memories.{proper}
+use Rattle.memories.specs.Memories.{Memories, proper}
 use Rattle.boot.specs.Session.{on, sound, gathered}
 use Rattle.boot.specs.Calls.{State, Byte}
 use Rattle.boot.specs.Promise.{stateOf}
@@ -50,37 +51,37 @@ list-passed [] cs p k m u s h = absurd (omega arith)
 list-passed (b ∷ bs) cs p k m u s h = some-passed b bs cs p m u s h
 
 -- the first n of some hex bytes
-pub passed : (s : Session) (flash sram usd : ℕ) (rest : List ℕ) (n : ℕ) → T (areFields rest) → 3 * n ≤ length rest → 0 < n
-    → Gathers s flash sram usd n → (next : Session) → next ≡ gathered (fields (take (3 * n) rest)) s → Passes s flash sram usd rest next (3 * n)
-passed s flash sram usd rest n t h k g next e =
+pub passed : (s : Session) (right : Bool) (rest : List ℕ) (n : ℕ) → T (areFields rest) → 3 * n ≤ length rest → 0 < n
+    → Gathers s right n → (next : Session) → next ≡ gathered (fields (take (3 * n) rest)) s → Passes s right rest next (3 * n)
+passed s right rest n t h k g next e =
     let p = parted n rest t h in
     let front = fields (take (3 * n) rest) in
     let back = fields (drop (3 * n) rest) in
     record {
       within = h;
       left = p .back;
-      told = λ f r u ef er eu.
-          ap (λ (l : List ℕ). tells (map (Byte deskRoom) l) (stateOf s f r u)) (p .joined)
-          ∙ list-passed front back (stateOf s f r u) (omega (arith, p .count)) (rw (ef, er, eu) (g .lengths)) (g .here) (g .firm)
+      told = λ m em.
+          ap (λ (l : List ℕ). tells (map (Byte deskRoom) l) (stateOf s m)) (p .joined)
+          ∙ list-passed front back (stateOf s m) (omega (arith, p .count)) (subst T (sym em) (g .lengths)) (g .here) (g .firm)
           (let c = p .count in let q = g .short in omega arith)
-          ∙ ap (λ (x : Session). tells (map (Byte deskRoom) back) (stateOf x f r u)) (sym e);
+          ∙ ap (λ (x : Session). tells (map (Byte deskRoom) back) (stateOf x m)) (sym e);
     }
 
 -- what is left to tell after bytes that were taken at once
-pub record Left (rest : List ℕ) (i n : ℕ) (next : Session) (f r u : List ℕ) (from : ℕ) (out : List ℕ) (whole : Told State) (at : ℕ) (before : List ℕ) : Type 0 where
+pub record Left (rest : List ℕ) (i n : ℕ) (next : Session) (m : Memories) (from : ℕ) (out : List ℕ) (whole : Told State) (at : ℕ) (before : List ℕ) : Type 0 where
   pub within : i + n ≤ length rest
   pub fields : T (areFields (drop (i + n) rest))
-  pub told : Continues (tells (map (Byte deskRoom) (L.fields (drop (i + n) rest))) (stateOf next f r u)) from out whole at before
+  pub told : Continues (tells (map (Byte deskRoom) (L.fields (drop (i + n) rest))) (stateOf next m)) from out whole at before
 
-pub passed-on : (rest : List ℕ) (i n : ℕ) (s next : Session) (f r u : List ℕ) {from at : ℕ} {out before : List ℕ} {whole : Told State} → i ≤ length rest
-    → Passes s (length f) (length r) (length u) (take (length rest - i) (drop i rest)) next n
-    → Continues (tells (map (Byte deskRoom) (L.fields (drop i rest))) (stateOf s f r u)) from out whole at before
-    → Left rest i n next f r u from out whole at before
-passed-on rest i n s next f r u {from = from} {at = at} {out = out} {before = before} {whole = whole} h p k =
+pub passed-on : (rest : List ℕ) (i n : ℕ) (s next : Session) (m : Memories) (right : Bool) {from at : ℕ} {out before : List ℕ} {whole : Told State} → i ≤ length rest
+    → proper m ≡ right → Passes s right (take (length rest - i) (drop i rest)) next n
+    → Continues (tells (map (Byte deskRoom) (L.fields (drop i rest))) (stateOf s m)) from out whole at before
+    → Left rest i n next m from out whole at before
+passed-on rest i n s next m right {from = from} {at = at} {out = out} {before = before} {whole = whole} h em p k =
     let q = rw (to-the-end i rest) at p in
     let d = drop-drop n i rest in
     record {
       within = let l = length-drop i rest in let w = q .within in omega arith;
       fields = rw d at (q .left);
-      told = rw (q .told f r u refl refl refl, d) at k;
+      told = rw (q .told m em, d) at k;
     }

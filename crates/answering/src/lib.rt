@@ -1,3 +1,4 @@
+// Answers one line: makes its calls and prints their replies, or tells its number.
 ghost use mathlib.Core.Path.{_≡_};
 ghost use mathlib.Core.List.{[], _∷_, map};
 ghost use Prim.Native.Nat.{_+_, _*_, _≤_, _<_};
@@ -5,6 +6,7 @@ ghost use lib.Dec.{T};
 ghost use lib.ListN.{length};
 ghost use Rattle.words.specs.Hex.{fieldCharacters};
 ghost use Rattle.words.specs.Over.{put};
+ghost use Rattle.memories.specs.Lent.{were, are};
 ghost use Rattle.boot.specs.Calls.{Byte, Framed};
 ghost use Rattle.boot.specs.Promise.{stateOf};
 ghost use Rattle.lines.specs.Lines.{areFields, fields, areFrame, frameWritten, kindOf};
@@ -48,9 +50,9 @@ fn tell_byte(
     at: usize,
 ) -> Answered
     requires { ⌜ at + deskRoom * fieldCharacters ≤ length (now out) ⌝ }
-    ensures { λ r. ⌜ Tells (tell (Byte deskRoom byte) (stateOf session (now (flash .entry)) (now (sram .entry)) (now (usd .entry)))) at
-        (now (out .entry)) (r .end) (now (out .exit)) (stateOf (r .session) (now (flash .exit)) (now (sram .exit)) (now (usd .exit))) ⌝ }
-    ensures { λ r. ⌜ r .end ≤ at + deskRoom * fieldCharacters ⌝ }
+    ensures told { λ r. ⌜ Tells (tell (Byte deskRoom byte) (stateOf session (were flash sram usd))) at (now (out .entry))
+        (r .end) (now (out .exit)) (stateOf (r .session) (are flash sram usd)) ⌝ }
+    ensures fits { λ r. ⌜ r .end ≤ at + deskRoom * fieldCharacters ⌝ }
 {
     let mut buffer = [0u8; ROOM];
     let taken = session.take_byte(byte, flash, sram, usd, &mut buffer);
@@ -63,12 +65,12 @@ fn tell_byte(
     }
 }
 
-// Takes at once as many of the first hex bytes as the session only gathers, given the lengths of the memories.
-fn pass(session: Session, rest: &[u8], flash: usize, sram: usize, usd: usize) -> Passed
+// Takes at once as many of the first hex bytes as the session only gathers, given whether the memories have their lengths.
+fn pass(session: Session, rest: &[u8], right: bool) -> Passed
     requires { ⌜ T (areFields (now rest)) ⌝ }
-    ensures { λ r. ⌜ Passes session flash sram usd (now (rest .entry)) (r .session) (r .characters) ⌝ }
+    ensures { λ r. ⌜ Passes session right (now (rest .entry)) (r .session) (r .characters) ⌝ }
 {
-    let n = gathering::silent_bytes(session, rest.len() / FIELD, flash, sram, usd);
+    let n = gathering::silent_bytes(session, rest.len() / FIELD, right);
     if n == 0 {
         return Passed {
             session: session,
@@ -94,13 +96,14 @@ fn tell_bytes(
     out: &mut [u8],
     at: usize,
 ) -> Answered
-    requires { ⌜ T (areFields (now rest)) × (at + deskRoom * length (now rest) ≤ length (now out)) ⌝ }
-    ensures { λ r. ⌜ Tells
-        (tells (map (Byte deskRoom) (fields (now (rest .entry)))) (stateOf session (now (flash .entry)) (now (sram .entry)) (now (usd .entry)))) at
-        (now (out .entry)) (r .end) (now (out .exit)) (stateOf (r .session) (now (flash .exit)) (now (sram .exit)) (now (usd .exit))) ⌝ }
-    ensures { λ r. ⌜ r .end ≤ at + deskRoom * length (now (rest .entry)) ⌝ }
+    requires { ⌜ T (areFields (now rest)) ⌝ }
+    requires { ⌜ at + deskRoom * length (now rest) ≤ length (now out) ⌝ }
+    ensures told { λ r. ⌜ Tells (tells (map (Byte deskRoom) (fields (now (rest .entry)))) (stateOf session (were flash sram usd))) at (now (out .entry))
+        (r .end) (now (out .exit)) (stateOf (r .session) (are flash sram usd)) ⌝ }
+    ensures fits { λ r. ⌜ r .end ≤ at + deskRoom * length (now (rest .entry)) ⌝ }
 {
     let n = rest.len();
+    let right = boot::take::lengths_right(flash.len(), sram.len(), usd.len());
     let mut told = Answered {
         session: session,
         end: at,
@@ -108,7 +111,7 @@ fn tell_bytes(
     let mut i = 0;
     while i < n {
         let here = told.session;
-        let passed = pass(here, &rest[i..], flash.len(), sram.len(), usd.len());
+        let passed = pass(here, &rest[i..], right);
         let next = passed.session;
         i += passed.characters;
         told.session = next;
@@ -132,11 +135,11 @@ fn tell_frame(
     out: &mut [u8],
     at: usize,
 ) -> Answered
-    requires { ⌜ T (areFrame (now rest)) × (at + deskRoom * length (now rest) ≤ length (now out)) ⌝ }
-    ensures { λ r. ⌜ Tells
-        (tells (Framed deskRoom (frameWritten (now (rest .entry))) ∷ []) (stateOf session (now (flash .entry)) (now (sram .entry)) (now (usd .entry))))
-        at (now (out .entry)) (r .end) (now (out .exit)) (stateOf (r .session) (now (flash .exit)) (now (sram .exit)) (now (usd .exit))) ⌝ }
-    ensures { λ r. ⌜ r .end ≤ at + deskRoom * length (now (rest .entry)) ⌝ }
+    requires { ⌜ T (areFrame (now rest)) ⌝ }
+    requires { ⌜ at + deskRoom * length (now rest) ≤ length (now out) ⌝ }
+    ensures told { λ r. ⌜ Tells (tells (Framed deskRoom (frameWritten (now (rest .entry))) ∷ []) (stateOf session (were flash sram usd))) at (now (out .entry))
+        (r .end) (now (out .exit)) (stateOf (r .session) (are flash sram usd)) ⌝ }
+    ensures fits { λ r. ⌜ r .end ≤ at + deskRoom * length (now (rest .entry)) ⌝ }
 {
     let mut input = [0u8; frames::BYTES];
     written::frame(rest, &mut input);
@@ -162,11 +165,11 @@ fn tell_line(
     out: &mut [u8],
     at: usize,
 ) -> Answered
-    requires { ⌜ (kind ≡ kindOf (now line)) × (at + deskRoom * length (now line) ≤ length (now out)) ⌝ }
-    ensures { λ r. ⌜ Tells
-        (tells (callsOf kind (now (line .entry))) (stateOf session (now (flash .entry)) (now (sram .entry)) (now (usd .entry)))) at
-        (now (out .entry)) (r .end) (now (out .exit)) (stateOf (r .session) (now (flash .exit)) (now (sram .exit)) (now (usd .exit))) ⌝ }
-    ensures { λ r. ⌜ r .end ≤ at + deskRoom * length (now (line .entry)) ⌝ }
+    requires { ⌜ kind ≡ kindOf (now line) ⌝ }
+    requires { ⌜ at + deskRoom * length (now line) ≤ length (now out) ⌝ }
+    ensures told { λ r. ⌜ Tells (tells (callsOf kind (now (line .entry))) (stateOf session (were flash sram usd))) at (now (out .entry))
+        (r .end) (now (out .exit)) (stateOf (r .session) (are flash sram usd)) ⌝ }
+    ensures fits { λ r. ⌜ r .end ≤ at + deskRoom * length (now (line .entry)) ⌝ }
 {
     match kind {
         Kind::Bytes => tell_bytes(session, &line[1..], flash, sram, usd, out, at),
@@ -193,11 +196,11 @@ fn obey(
     out: &mut [u8],
     at: usize,
 ) -> Answered
-    requires { ⌜ (kind ≡ kindOf (now line)) × (at + answerRoom (length (now line)) ≤ length (now out)) ⌝ }
-    ensures { λ r. ⌜ Tells
-        (obeyed (tells (callsOf kind (now (line .entry))) (stateOf session (now (flash .entry)) (now (sram .entry)) (now (usd .entry))))) at
-        (now (out .entry)) (r .end) (now (out .exit)) (stateOf (r .session) (now (flash .exit)) (now (sram .exit)) (now (usd .exit))) ⌝ }
-    ensures { λ r. ⌜ r .end ≤ at + answerRoom (length (now (line .entry))) ⌝ }
+    requires { ⌜ kind ≡ kindOf (now line) ⌝ }
+    requires { ⌜ at + answerRoom (length (now line)) ≤ length (now out) ⌝ }
+    ensures told { λ r. ⌜ Tells (obeyed (tells (callsOf kind (now (line .entry))) (stateOf session (were flash sram usd)))) at (now (out .entry))
+        (r .end) (now (out .exit)) (stateOf (r .session) (are flash sram usd)) ⌝ }
+    ensures fits { λ r. ⌜ r .end ≤ at + answerRoom (length (now (line .entry))) ⌝ }
 {
     out[at] = ANSWERED;
     let told = tell_line(session, kind, line, flash, sram, usd, out, at + 1);
@@ -213,7 +216,9 @@ fn obey(
 // Answers another line by its number, and tells where the answer ends.
 fn disobey(number: u64, out: &mut [u8], at: usize) -> usize
     requires { ⌜ at + noticeRoom ≤ length (now out) ⌝ }
-    ensures { λ r. ⌜ (r ≡ at + length (notice number)) × (r ≤ at + noticeRoom) × (now (out .exit) ≡ put (now (out .entry)) at (notice number)) ⌝ }
+    ensures end { λ r. ⌜ r ≡ at + length (notice number) ⌝ }
+    ensures fits { λ r. ⌜ r ≤ at + noticeRoom ⌝ }
+    ensures text { λ _. ⌜ now (out .exit) ≡ put (now (out .entry)) at (notice number) ⌝ }
 {
     let text = [NOT_UNDERSTOOD, SPACE];
     words::copy(out, at, &text, 0, NOTICE_BEGINS);
@@ -234,9 +239,9 @@ pub fn answer(
     at: usize,
 ) -> Answered
     requires { ⌜ at + answerRoom (length (now line)) ≤ length (now out) ⌝ }
-    ensures { λ r. ⌜ Tells (answer number (now (line .entry)) (stateOf session (now (flash .entry)) (now (sram .entry)) (now (usd .entry))))
-        at (now (out .entry)) (r .end) (now (out .exit)) (stateOf (r .session) (now (flash .exit)) (now (sram .exit)) (now (usd .exit))) ⌝ }
-    ensures { λ r. ⌜ r .end ≤ at + answerRoom (length (now (line .entry))) ⌝ }
+    ensures told { λ r. ⌜ Tells (answer number (now (line .entry)) (stateOf session (were flash sram usd))) at (now (out .entry))
+        (r .end) (now (out .exit)) (stateOf (r .session) (are flash sram usd)) ⌝ }
+    ensures fits { λ r. ⌜ r .end ≤ at + answerRoom (length (now (line .entry))) ⌝ }
 {
     let kind = line::kind(line);
     match kind {

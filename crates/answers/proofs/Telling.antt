@@ -11,7 +11,7 @@ use lib.Seq.{take-append-seam}
 use Rattle.words.specs.Over.{put, newer}
 use Rattle.words.proofs.Over.{over-none, put-one, put-then}
 use Rattle.words.specs.Choice.{if_then_else_}
-use Rattle.memories.specs.Memories.{memories}
+use Rattle.memories.specs.Memories.{Memories}
 use Rattle.memories.specs.Effects.{effect}
 use Rattle.command.specs.Says.{says}
 use Rattle.frames.specs.Frames.{classic, frameBytes, frameIn}
@@ -19,8 +19,9 @@ use Rattle.frames.proofs.Cutting.{framed-whole}
 use Rattle.boot.specs.Session.{after}
 use Rattle.boot.specs.Causes.{accepts}
 use Rattle.boot.specs.Calls.{State, powered, Input, Power, Byte, Framed, commandsOf, bears, viewIn, causeFor, decide, sent, perform, refused, call}
-use Rattle.boot.specs.Promise.{Given, Left, givenByte, stateOf, outcome, Took}
+use Rattle.boot.specs.Promise.{Given, Left, left, givenByte, stateOf, outcome, Took}
 use Rattle.boot.specs.declared.Session.{Session}
+use Rattle.boot.specs.declared.Taken.{Taken}
 use Rattle.words.specs.Hex.{space}
 use Rattle.lines.specs.Digits.{byteIn}
 use Rattle.lines.specs.Lines.{lineFeed, fields}
@@ -51,40 +52,40 @@ module _ (g : Given) (l : Left) (t : Took g l) where
   took-reply = rw (t .count, t .buffer) (take-append-seam (outcome g .reply) (drop (length (outcome g .reply)) (g .buffer)))
 
 -- an input was taken, and its reply printed
-module _ (input : ℕ → Input) (s : Session) (flash sram usd lent : List ℕ) (room : length lent ≡ deskRoom) where
+module _ (input : ℕ → Input) (s : Session) (m : Memories) (lent : List ℕ) (room : length lent ≡ deskRoom) where
   abbrev pub given : Given
-  given = record { input = input (length lent); state = stateOf s flash sram usd; buffer = lent }
+  given = record { input = input (length lent); state = stateOf s m; buffer = lent }
 
-  pub input-told : (l : Left) → Took given l → (at end : ℕ) (out out' : List ℕ)
-      → end ≡ at + length (spelledFor (input (length lent)) (take (l .result .length) (l .buffer)))
-      → out' ≡ put out at (spelledFor (input (length lent)) (take (l .result .length) (l .buffer)))
-      → Tells (tell (input deskRoom) (stateOf s flash sram usd)) at out end out' (stateOf (l .result .session) (l .flash) (l .sram) (l .usd))
+  pub input-told : (r : Taken) (n : Memories) (buffer : List ℕ) → Took given (left r n buffer) → (at end : ℕ) (out out' : List ℕ)
+      → end ≡ at + length (spelledFor (input (length lent)) (take (r .length) buffer))
+      → out' ≡ put out at (spelledFor (input (length lent)) (take (r .length) buffer))
+      → Tells (tell (input deskRoom) (stateOf s m)) at out end out' (stateOf (r .session) n)
   unfolding outcome tell
-  input-told l t at end out out' e w = record {
+  input-told r n buffer t at end out out' e w = record {
     end = e
-        ∙ ap (λ (r : List ℕ). at + length (spelledFor (input (length lent)) r)) (took-reply given l t)
-        ∙ ap (λ (n : ℕ). at + length (spelledFor (input n) (call (input n) (stateOf s flash sram usd) .reply))) room;
+        ∙ ap (λ (b : List ℕ). at + length (spelledFor (input (length lent)) b)) (took-reply given (left r n buffer) t)
+        ∙ ap (λ (k : ℕ). at + length (spelledFor (input k) (call (input k) (stateOf s m) .reply))) room;
     text = w
-        ∙ ap (λ (r : List ℕ). put out at (spelledFor (input (length lent)) r)) (took-reply given l t)
-        ∙ ap (λ (n : ℕ). put out at (spelledFor (input n) (call (input n) (stateOf s flash sram usd) .reply))) room;
-    state = left-state ∙ ap (λ (n : ℕ). call (input n) (stateOf s flash sram usd) .state) room;
+        ∙ ap (λ (b : List ℕ). put out at (spelledFor (input (length lent)) b)) (took-reply given (left r n buffer) t)
+        ∙ ap (λ (k : ℕ). put out at (spelledFor (input k) (call (input k) (stateOf s m) .reply))) room;
+    state = left-state ∙ ap (λ (k : ℕ). call (input k) (stateOf s m) .state) room;
   }
     where
-      left-state : stateOf (l .result .session) (l .flash) (l .sram) (l .usd) ≡ call (input (length lent)) (stateOf s flash sram usd) .state
+      left-state : stateOf (r .session) n ≡ call (input (length lent)) (stateOf s m) .state
       left-state = λ i. record {
         session = t .session i;
         memories = record { flash = t .flash i; sram = t .sram i; usd = t .usd i };
       }
 
 -- a byte was taken, and its reply printed in three characters each
-pub byte-told : (s : Session) (b : ℕ) (flash sram usd lent : List ℕ) → length lent ≡ deskRoom → (l : Left) → Took (givenByte s b (memories flash sram usd) lent) l
-    → (at end : ℕ) (out out' : List ℕ) → end ≡ at + l .result .length * 3
-    → out' ≡ put out at (spelled (take (l .result .length) (l .buffer)))
-    → Tells (tell (Byte deskRoom b) (stateOf s flash sram usd)) at out end out' (stateOf (l .result .session) (l .flash) (l .sram) (l .usd))
-byte-told s b flash sram usd lent room l t at end out out' e w =
-    let r = ap length (took-reply (givenByte s b (memories flash sram usd) lent) l t) ∙ sym (t .count) in
-    let k = length-spelled (take (l .result .length) (l .buffer)) in
-    input-told (λ (n : ℕ). Byte n b) s flash sram usd lent room l t at end out out' (omega arith) w
+pub byte-told : (s : Session) (b : ℕ) (m : Memories) (lent : List ℕ) → length lent ≡ deskRoom
+    → (r : Taken) (n : Memories) (buffer : List ℕ) → Took (givenByte s b m lent) (left r n buffer)
+    → (at end : ℕ) (out out' : List ℕ) → end ≡ at + r .length * 3 → out' ≡ put out at (spelled (take (r .length) buffer))
+    → Tells (tell (Byte deskRoom b) (stateOf s m)) at out end out' (stateOf (r .session) n)
+byte-told s b m lent room r n buffer t at end out out' e w =
+    let c = ap length (took-reply (givenByte s b m lent) (left r n buffer) t) ∙ sym (t .count) in
+    let k = length-spelled (take (r .length) buffer) in
+    input-told (λ (k : ℕ). Byte k b) s m lent room r n buffer t at end out out' (omega arith) w
 
 -- the reply to a frame is whole frames
 pub frame-whole : (room : ℕ) (f : List ℕ) (p : State) → length (call (Framed room f) p .reply) % frameBytes classic ≡ 0

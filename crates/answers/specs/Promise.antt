@@ -1,10 +1,12 @@
 -- What the functions that answer promise: every part of what they give back and every byte lent.
 use Prim.Native.Nat.{ℕ, _+_, _*_, _≤_}
 use mathlib.Core.Path.{_≡_}
+use mathlib.Core.Bool.{Bool}
 use mathlib.Core.List.{List, map}
 use lib.Dec.{T}
 use lib.ListN.{length, drop}
 use Rattle.words.specs.Over.{put}
+use Rattle.memories.specs.Memories.{Memories, proper}
 use Rattle.boot.specs.Calls.{Byte}
 use Rattle.boot.specs.Promise.{stateOf}
 use Rattle.boot.specs.declared.Session.{Session}
@@ -25,12 +27,13 @@ pub record Continues {A : Type 0} (rest : Told A) (from : ℕ) (out : List ℕ) 
   pub text : put out from (rest .text) ≡ put before at (whole .text)
   pub state : rest .state ≡ whole .state
 
--- a session takes the first characters of some hex bytes, n of them, at once: nothing is told of these, and another session is left
-pub record Passes (s : Session) (flash sram usd : ℕ) (rest : List ℕ) (next : Session) (n : ℕ) : Type 0 where
+-- a session takes the first characters of some hex bytes, n of them, at once: nothing is told of these, and another session is left, by whatever
+-- memories that have their lengths or, as is said, have not
+pub record Passes (s : Session) (right : Bool) (rest : List ℕ) (next : Session) (n : ℕ) : Type 0 where
   pub within : n ≤ length rest
   pub left : T (areFields (drop n rest))
-  pub told : (f r u : List ℕ) → length f ≡ flash → length r ≡ sram → length u ≡ usd
-      → tells (map (Byte deskRoom) (fields rest)) (stateOf s f r u) ≡ tells (map (Byte deskRoom) (fields (drop n rest))) (stateOf next f r u)
+  pub told : (m : Memories) → proper m ≡ right
+      → tells (map (Byte deskRoom) (fields rest)) (stateOf s m) ≡ tells (map (Byte deskRoom) (fields (drop n rest))) (stateOf next m)
 
 -- the most characters of the notice that bears a line's number
 abbrev pub noticeRoom : ℕ

@@ -3,7 +3,7 @@ use Prim.Native.Nat.{ℕ}
 use mathlib.Core.Path.{_≡_}
 use mathlib.Core.List.{List, _++_}
 use lib.ListN.{length, drop}
-use Rattle.memories.specs.Memories.{Memories, memories}
+use Rattle.memories.specs.Memories.{Memories}
 use Rattle.command.specs.declared.Next.{Next}
 use Rattle.boot.specs.Session as S
 use Rattle.boot.specs.Session.{fresh}
@@ -37,25 +37,22 @@ pub record Left : Type 0 where
 abbrev pub left : Taken → Memories → List ℕ → Left
 left r m buffer = record { result = r; flash = m .flash; sram = m .sram; usd = m .usd; buffer = buffer }
 
--- the state of a session and three lent memories
-abbrev pub stateOf : Session → List ℕ → List ℕ → List ℕ → State
-stateOf s flash sram usd = record {
-  session = s;
-  memories = memories flash sram usd;
-}
+-- the state of a session and the memories
+abbrev pub stateOf : Session → Memories → State
+stateOf s m = record { session = s; memories = m }
 
 -- a UART byte is given, and a CAN frame
 abbrev pub givenByte : Session → ℕ → Memories → List ℕ → Given
 givenByte s b m buffer = record {
   input = Byte (length buffer) b;
-  state = record { session = s; memories = m };
+  state = stateOf s m;
   buffer = buffer;
 }
 
 abbrev pub givenFrame : Session → List ℕ → Memories → List ℕ → Given
 givenFrame s frame m buffer = record {
   input = Framed (length buffer) frame;
-  state = record { session = s; memories = m };
+  state = stateOf s m;
   buffer = buffer;
 }
 

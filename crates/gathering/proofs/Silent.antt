@@ -145,17 +145,17 @@ own-small CSV.WriteData expected id t h b = omega arith
 own-small CSV.EraseList expected id t h b = omega arith
 own-small CSV.ProtectList expected id t h b = omega arith
 
-module _ (s : Session) (flash sram usd : ℕ) (g : HearsFrames s flash sram usd) where
+module _ (s : Session) (right : Bool) (g : HearsFrames s right) where
   pub silent-id : (id dlc : ℕ) → SilentFrame (s .step) (s .taken) (s .expected) id dlc → id ≤ largestId
   silent-id id dlc h =
       own-small (C.stepOf (s .step)) (s .expected) id (can-expects s (g .firm) (g .here)) (omega (arith, h .some, h .short)) (h .own)
 
   -- frames are heard after bytes that were only gathered
-  pub still-hears : (new : List ℕ) → s .taken + length new < s .expected → HearsFrames (gathered new s) flash sram usd
+  pub still-hears : (new : List ℕ) → s .taken + length new < s .expected → HearsFrames (gathered new s) right
   still-hears new h = record { lengths = g .lengths; here = g .here; firm = gathered-sound new s (g .firm) h }
 
 pub gathers-frame : (room : ℕ) (l : List ℕ) (p : State) → CC.canRoom ≤ room
-    → HearsFrames (p .session) (length (p .memories .flash)) (length (p .memories .sram)) (length (p .memories .usd)) → T (isFrame classic l)
+    → HearsFrames (p .session) (proper (p .memories)) → T (isFrame classic l)
     → SilentFrame (p .session .step) (p .session .taken) (p .session .expected) (frameIn l .id) (frameIn l .dlc)
     → call (Framed room l) p ≡ onlyGathered (carried (frameIn l)) p
 unfolding call causeFor causeOf decide decideFrame connected if_gives_else_ perform sent says after effect

@@ -1,24 +1,24 @@
 -- Input that a session only gathers: it is accepted, nothing is said of it, and no memory changes.
 use Prim.Native.Nat.{ℕ, _+_, _<_}
 use mathlib.Core.Path.{_≡_}
+use mathlib.Core.Bool.{Bool}
 use lib.Dec.{T}
-use Rattle.memories.specs.Memories.{lengthsRight}
 use Rattle.can.specs.Steps.{stepOf}
 use Rattle.can.specs.Conversation.{bears}
 use Rattle.boot.specs.Session.{on, sound}
 use Rattle.carriers.specs.declared.Carrier.the-variants.{Uart, Can}
 use Rattle.boot.specs.declared.Session.{Session}
 
--- so many UART bytes are only gathered: memories of these lengths have theirs, and a sound session on UART expects more
-pub record Gathers (s : Session) (flash sram usd n : ℕ) : Type 0 where
-  pub lengths : T (lengthsRight flash sram usd)
+-- so many UART bytes are only gathered: the memories have their lengths, and a sound session on UART expects more
+pub record Gathers (s : Session) (right : Bool) (n : ℕ) : Type 0 where
+  pub lengths : T right
   pub here : T (on Uart s)
   pub firm : T (sound s)
   pub short : s .taken + n < s .expected
 
--- frames are heard: memories of these lengths have theirs, and a sound session is on CAN
-pub record HearsFrames (s : Session) (flash sram usd : ℕ) : Type 0 where
-  pub lengths : T (lengthsRight flash sram usd)
+-- frames are heard: the memories have their lengths, and a sound session is on CAN
+pub record HearsFrames (s : Session) (right : Bool) : Type 0 where
+  pub lengths : T right
   pub here : T (on Can s)
   pub firm : T (sound s)
 

@@ -1,15 +1,16 @@
+// Input that a session only gathers, which may be taken at once.
 ghost use Prim.Native.Nat.{_≤_, _<_};
 ghost use lib.Dec.{T};
 ghost use Rattle.gathering.specs.Gathering.{Gathers, HearsFrames, SilentFrame};
 use boot::Session;
 use carriers::Carrier;
 
-// How many of n bytes the session only gathers, given the lengths of the memories: taking them at once is taking them one by one.
-pub fn silent_bytes(session: Session, n: usize, flash: usize, sram: usize, usd: usize) -> usize
-    ensures { λ r. ⌜ (r ≤ n) × ((0 < r) → Gathers session flash sram usd r) ⌝ }
+// How many of n bytes the session only gathers, given whether the memories have their lengths: taking them at once is taking them one by one.
+pub fn silent_bytes(session: Session, n: usize, right: bool) -> usize
+    ensures few { λ r. ⌜ r ≤ n ⌝ }
+    ensures silent { λ r. ⌜ (0 < r → Gathers session right r) ⌝ }
 {
-    let hears = boot::take::lengths_right(flash, sram, usd) & session.on(Carrier::Uart);
-    let gathers = hears & session.sound();
+    let gathers = right & session.on(Carrier::Uart) & session.sound();
     if gathers {
         words::least(n, session.expected - session.taken - 1)
     } else {
@@ -17,11 +18,11 @@ pub fn silent_bytes(session: Session, n: usize, flash: usize, sram: usize, usd: 
     }
 }
 
-// Whether the session is one on CAN that hears frames, given the lengths of the memories.
-pub fn hears_frames(session: Session, flash: usize, sram: usize, usd: usize) -> bool
-    ensures { λ r. ⌜ (T r → HearsFrames session flash sram usd) ⌝ }
+// Whether the session is one on CAN that hears frames, given whether the memories have their lengths.
+pub fn hears_frames(session: Session, right: bool) -> bool
+    ensures { λ r. ⌜ (T r → HearsFrames session right) ⌝ }
 {
-    boot::take::lengths_right(flash, sram, usd) & session.on(Carrier::Can) & session.sound()
+    right & session.on(Carrier::Can) & session.sound()
 }
 
 // Whether a step of CAN only gathers a frame of an ID and so many data bytes.

@@ -11,10 +11,15 @@ use lib.ListN.{length, getD, take, drop, set}
 use lib.Seq.{drop-cons, length-take-le}
 use borrow.Author.Tests.{lt-ltb, le-ltb}
 use Rattle.words.specs.Over.{put}
+use Rattle.memories.specs.Memories.{Memories}
+use Rattle.boot.specs.Promise.{stateOf}
 use Rattle.lines.specs.Lines.{lineFeed}
 use Rattle.answers.specs.Told.{Told, quiet, _then_}
 use Rattle.answers.specs.Desk.{Desk, keptCharacters, keep, kept, lineEnds, hears}
 use Rattle.answers.specs.Promise.{Tells}
+use Rattle.passing.specs.Passing.{atLine}
+use Rattle.hearing.specs.Promise.{deskOf}
+use Rattle.hearing.specs.declared.Desk as C
 
 -- a character stored behind others is kept behind them
 stored-behind : (l : List ℕ) (j c : ℕ) → j < length l → take (suc j) (set l j c) ≡ take j l ++ c ∷ []
@@ -29,6 +34,10 @@ kept-stored l j c e h =
 
 pub kept-full : (l : List ℕ) (j c : ℕ) → length l ≡ keptCharacters → j ≤ keptCharacters → keptCharacters ≤ j → take j l ≡ keep (take j l) c
 kept-full l j c e k h = rw (length-take-le j l (omega arith), le-ltb j keptCharacters h) refl
+
+-- a desk of which nothing is kept is before a line
+pub nothing-kept : (d : C.Desk) (line : List ℕ) (m : Memories) → d .kept ≡ 0 → deskOf d line m ≡ atLine (d .session) m (d .lines)
+nothing-kept d line m e = ap (λ (n : ℕ). record { state = stateOf (d .session) m; lines = d .lines; line = take n line }) e
 
 -- something told, and a state made of what is then so
 pub told-as : {A B : Type 0} (t : Told A) (g : A → B) (at end : ℕ) (out out' : List ℕ) (a : A)

@@ -2,14 +2,15 @@
 use Prim.Native.Nat.{ℕ}
 use mathlib.Core.List.{List}
 use lib.ListN.{take}
+use Rattle.memories.specs.Memories.{Memories}
 use Rattle.boot.specs.Promise.{stateOf}
 use Rattle.answers.specs.Desk as D
 use Rattle.hearing.specs.declared.Desk.{Desk}
 
 -- the desk of the code's numbers and what is lent to it
-abbrev pub deskOf : Desk → List ℕ → List ℕ → List ℕ → List ℕ → D.Desk
-deskOf d line flash sram usd = record {
-  state = stateOf (d .session) flash sram usd;
+abbrev pub deskOf : Desk → List ℕ → Memories → D.Desk
+deskOf d line m = record {
+  state = stateOf (d .session) m;
   lines = d .lines;
   line = take (d .kept) line;
 }

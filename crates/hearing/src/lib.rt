@@ -1,6 +1,8 @@
+// Takes characters in one by one, and answers each line as it ends.
 ghost use mathlib.Core.Path.{_≡_};
 ghost use Prim.Native.Nat.{_+_, _*_, _^_, _≤_, _<_};
 ghost use lib.ListN.{length, take, drop};
+ghost use Rattle.memories.specs.Lent.{were, are};
 ghost use Rattle.answers.specs.Answers.{deskRoom};
 ghost use Rattle.answers.specs.Told.{_then_};
 ghost use Rattle.answers.specs.Desk.{keptCharacters, keep, lineEnds, hears, inputEnds};
@@ -30,8 +32,10 @@ pub struct Heard {
 
 // Keeps a character of the line that has begun, and tells how many are kept.
 fn keep(line: &mut [u8], kept: usize, character: u8) -> usize
-    requires { ⌜ (length (now line) ≡ keptCharacters) × (kept ≤ keptCharacters) ⌝ }
-    ensures { λ r. ⌜ (take r (now (line .exit)) ≡ keep (take kept (now (line .entry))) character) × (r ≤ keptCharacters) × (r ≤ kept + 1) ⌝ }
+    requires { ⌜ length (now line) ≡ keptCharacters ⌝ }
+    requires { ⌜ kept ≤ keptCharacters ⌝ }
+    ensures line { λ r. ⌜ take r (now (line .exit)) ≡ keep (take kept (now (line .entry))) character ⌝ }
+    ensures kept { λ r. ⌜ (r ≤ keptCharacters) × (r ≤ kept + 1) ⌝ }
 {
     if kept < KEPT_CHARACTERS {
         line[kept] = character;
@@ -50,11 +54,13 @@ fn end_line(
     usd: &mut [u8],
     out: &mut [u8],
 ) -> Desk
-    requires { ⌜ (desk .kept ≤ length (now line)) × (desk .lines + 1 < 2 ^ 64) × (desk .end + answerRoom (desk .kept) ≤ length (now out)) ⌝ }
-    ensures { λ r. ⌜ Tells (lineEnds (deskOf desk (now (line .entry)) (now (flash .entry)) (now (sram .entry)) (now (usd .entry))))
-        (desk .end) (now (out .entry)) (r .end) (now (out .exit))
-        (deskOf r (now (line .entry)) (now (flash .exit)) (now (sram .exit)) (now (usd .exit))) ⌝ }
-    ensures { λ r. ⌜ (r .end ≤ desk .end + answerRoom (desk .kept)) × (r .kept ≡ 0) × (r .lines ≡ desk .lines + 1) ⌝ }
+    requires { ⌜ desk .kept ≤ length (now line) ⌝ }
+    requires { ⌜ desk .lines + 1 < 2 ^ 64 ⌝ }
+    requires { ⌜ desk .end + answerRoom (desk .kept) ≤ length (now out) ⌝ }
+    ensures told { λ r. ⌜ Tells (lineEnds (deskOf desk (now (line .entry)) (were flash sram usd))) (desk .end) (now (out .entry))
+        (r .end) (now (out .exit)) (deskOf r (now (line .entry)) (are flash sram usd)) ⌝ }
+    ensures fits { λ r. ⌜ r .end ≤ desk .end + answerRoom (desk .kept) ⌝ }
+    ensures counts { λ r. ⌜ (r .kept ≡ 0) × (r .lines ≡ desk .lines + 1) ⌝ }
 {
     let session = desk.session;
     let number = desk.lines + 1;
@@ -88,19 +94,20 @@ fn go_on(
     usd: &mut [u8],
     out: &mut [u8],
 ) -> Heard
-    requires { ⌜ (desk .kept ≤ length (now line)) × (desk .lines + 1 + length (now rest) < 2 ^ 64)
-        × (desk .end + answerRoom (desk .kept) + length (now rest) ≤ length (now out)) ⌝ }
-    ensures { λ r. ⌜ Continues
-        (hears (drop (r .characters) (now (rest .entry))) (deskOf (r .desk) (now (line .entry)) (now (flash .exit)) (now (sram .exit)) (now (usd .exit))))
-        (r .desk .end) (now (out .exit))
-        (lineEnds (deskOf desk (now (line .entry)) (now (flash .entry)) (now (sram .entry)) (now (usd .entry))) then hears (now (rest .entry)))
-        (desk .end) (now (out .entry)) ⌝ }
-    ensures { λ r. ⌜ (r .characters ≤ length (now (rest .entry))) × (r .desk .kept ≡ 0) × (r .desk .lines ≤ desk .lines + 1 + r .characters)
-        × (r .desk .end ≤ desk .end + answerRoom (desk .kept) + r .characters) ⌝ }
+    requires { ⌜ desk .kept ≤ length (now line) ⌝ }
+    requires { ⌜ desk .lines + 1 + length (now rest) < 2 ^ 64 ⌝ }
+    requires { ⌜ desk .end + answerRoom (desk .kept) + length (now rest) ≤ length (now out) ⌝ }
+    ensures told { λ r. ⌜ Continues
+        (hears (drop (r .characters) (now (rest .entry))) (deskOf (r .desk) (now (line .entry)) (are flash sram usd))) (r .desk .end) (now (out .exit))
+        (lineEnds (deskOf desk (now (line .entry)) (were flash sram usd)) then hears (now (rest .entry))) (desk .end) (now (out .entry)) ⌝ }
+    ensures within { λ r. ⌜ r .characters ≤ length (now (rest .entry)) ⌝ }
+    ensures fits { λ r. ⌜ r .desk .end ≤ desk .end + answerRoom (desk .kept) + r .characters ⌝ }
+    ensures counts { λ r. ⌜ (r .desk .kept ≡ 0) × (r .desk .lines ≤ desk .lines + 1 + r .characters) ⌝ }
 {
     let next = end_line(desk, line, flash, sram, usd, out);
     let session = next.session;
-    let gathered = passing::gather(session, rest, flash.len(), sram.len(), usd.len());
+    let right = boot::take::lengths_right(flash.len(), sram.len(), usd.len());
+    let gathered = passing::gather(session, rest, right);
     let passed = gathered.session;
     let lines = gathered.lines;
     let end = passing::nod(lines, out, next.end);
@@ -125,12 +132,14 @@ pub fn hear(
     usd: &mut [u8],
     out: &mut [u8],
 ) -> Desk
-    requires { ⌜ (length (now line) ≡ keptCharacters) × (desk .kept ≤ keptCharacters) × (desk .lines + length (now text) < 2 ^ 64)
-        × (desk .end + deskRoom * (desk .kept + length (now text)) ≤ length (now out)) ⌝ }
-    ensures { λ r. ⌜ Tells
-        (hears (now (text .entry)) (deskOf desk (now (line .entry)) (now (flash .entry)) (now (sram .entry)) (now (usd .entry)))) (desk .end)
-        (now (out .entry)) (r .end) (now (out .exit)) (deskOf r (now (line .exit)) (now (flash .exit)) (now (sram .exit)) (now (usd .exit))) ⌝ }
-    ensures { λ r. ⌜ (r .end ≤ length (now (out .entry))) × (r .kept ≤ keptCharacters) × (r .lines ≤ desk .lines + length (now (text .entry))) ⌝ }
+    requires { ⌜ length (now line) ≡ keptCharacters ⌝ }
+    requires { ⌜ desk .kept ≤ keptCharacters ⌝ }
+    requires { ⌜ desk .lines + length (now text) < 2 ^ 64 ⌝ }
+    requires { ⌜ desk .end + deskRoom * (desk .kept + length (now text)) ≤ length (now out) ⌝ }
+    ensures told { λ r. ⌜ Tells (hears (now (text .entry)) (deskOf desk (now (line .entry)) (were flash sram usd))) (desk .end) (now (out .entry))
+        (r .end) (now (out .exit)) (deskOf r (now (line .exit)) (are flash sram usd)) ⌝ }
+    ensures fits { λ r. ⌜ r .end ≤ length (now (out .entry)) ⌝ }
+    ensures counts { λ r. ⌜ (r .kept ≤ keptCharacters) × (r .lines ≤ desk .lines + length (now (text .entry))) ⌝ }
 {
     let n = text.len();
     let mut here = desk;
@@ -160,11 +169,12 @@ pub fn finish(
     usd: &mut [u8],
     out: &mut [u8],
 ) -> Desk
-    requires { ⌜ (desk .kept ≤ length (now line)) × (desk .lines + 1 < 2 ^ 64) × (desk .end + answerRoom (desk .kept) ≤ length (now out)) ⌝ }
-    ensures { λ r. ⌜ Tells (inputEnds (deskOf desk (now (line .entry)) (now (flash .entry)) (now (sram .entry)) (now (usd .entry))))
-        (desk .end) (now (out .entry)) (r .end) (now (out .exit))
-        (deskOf r (now (line .entry)) (now (flash .exit)) (now (sram .exit)) (now (usd .exit))) ⌝ }
-    ensures { λ r. ⌜ r .end ≤ length (now (out .entry)) ⌝ }
+    requires { ⌜ desk .kept ≤ length (now line) ⌝ }
+    requires { ⌜ desk .lines + 1 < 2 ^ 64 ⌝ }
+    requires { ⌜ desk .end + answerRoom (desk .kept) ≤ length (now out) ⌝ }
+    ensures told { λ r. ⌜ Tells (inputEnds (deskOf desk (now (line .entry)) (were flash sram usd))) (desk .end) (now (out .entry))
+        (r .end) (now (out .exit)) (deskOf r (now (line .entry)) (are flash sram usd)) ⌝ }
+    ensures fits { λ r. ⌜ r .end ≤ length (now (out .entry)) ⌝ }
 {
     if 0 < desk.kept {
         end_line(desk, line, flash, sram, usd, out)

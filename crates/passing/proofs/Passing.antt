@@ -1,6 +1,6 @@
 -- A line of a frame that is only gathered is answered by `>`, and what comes after it is heard by the session that has taken its bytes.
 use mathlib.Core.Path.{_≡_, refl, sym, ap, ap₂, subst, _∙_}
-use mathlib.Core.Bool.{not}
+use mathlib.Core.Bool.{Bool, not}
 use mathlib.Core.List.{List, [], _∷_, _++_, append-nil, append-assoc}
 use Prim.Native.Nat.{ℕ, zero, suc, _+_, _-_, _≤_, _<_}
 use native.Mathlib.Omega.{arith}
@@ -10,6 +10,7 @@ use lib.Seq.{drop-drop, length-take-le}
 use borrow.Author.Tests.{lt-ltb}
 use Rattle.words.specs.Over.{put}
 use Rattle.words.proofs.Tests.{both-left, both-right, fails-false}
+use Rattle.memories.specs.Memories.{Memories, proper}
 use Rattle.frames.specs.Frames.{largestId}
 use Rattle.boot.specs.Session.{gathered}
 use Rattle.boot.specs.Calls.{State, Framed, call}
@@ -82,32 +83,32 @@ module _ (s : Session) (text : List ℕ) (end count : ℕ) (new : List ℕ) (l :
       }) (l .counted) (l .bytes)
       ∙ sym (all-fit brought s (omega (arith, still-short)))
 
-  module _ (f r u : List ℕ) (g : HearsFrames s (length f) (length r) (length u)) where
+  module _ (m : Memories) (g : HearsFrames s (proper m)) where
     small : idIn rest ≤ largestId
-    small = silent-id s (length f) (length r) (length u) g (idIn rest) count (l .silent)
+    small = silent-id s (proper m) g (idIn rest) count (l .silent)
 
-    only-gathered : call (Framed deskRoom (frameWritten rest)) (stateOf s f r u) ≡ onlyGathered brought (stateOf s f r u)
+    only-gathered : call (Framed deskRoom (frameWritten rest)) (stateOf s m) ≡ onlyGathered brought (stateOf s m)
     only-gathered =
-        gathers-frame deskRoom (frameWritten rest) (stateOf s f r u) (omega arith) g (formed-back rest good small) (record {
+        gathers-frame deskRoom (frameWritten rest) (stateOf s m) (omega arith) g (formed-back rest good small) (record {
           own = rw (id-back rest good small) (l .silent .own);
           some = omega (arith, l .silent .some, l .counted);
           short = still-short;
         })
-        ∙ ap (λ (b : List ℕ). onlyGathered b (stateOf s f r u)) (carried-back rest good)
+        ∙ ap (λ (b : List ℕ). onlyGathered b (stateOf s m)) (carried-back rest good)
 
-    line-answered : (k : ℕ) → answer k (take end text) (stateOf s f r u) ≡ record { text = answered ∷ lineFeed ∷ []; state = stateOf (gathered brought s) f r u }
+    line-answered : (k : ℕ) → answer k (take end text) (stateOf s m) ≡ record { text = answered ∷ lineFeed ∷ []; state = stateOf (gathered brought s) m }
     unfolding answer answerBy tells tell
     line-answered k = let p = first-line text end (l .first) in rw (p .kind, p .behind, only-gathered) refl
 
-    pub line-passed : (k : ℕ) → hears text (atLine s f r u k) ≡ behind (answered ∷ lineFeed ∷ []) (hears (drop (end + 1) text) (atLine (gathered brought s) f r u (suc k)))
+    pub line-passed : (k : ℕ) → hears text (atLine s m k) ≡ behind (answered ∷ lineFeed ∷ []) (hears (drop (end + 1) text) (atLine (gathered brought s) m (suc k)))
     unfolding hears
     line-passed k =
         let p = first-line text end (l .first) in
         let w = l .first .within in
         let n = length-take-le end text (omega arith) in
         let o = p .short in
-        ap (λ (t : List ℕ). hears t (atLine s f r u k)) (p .parts)
-        ∙ hears-endless (take end text) (lineFeed ∷ drop (end + 1) text) (atLine s f r u k) (p .plain) (omega arith)
+        ap (λ (t : List ℕ). hears t (atLine s m k)) (p .parts)
+        ∙ hears-endless (take end text) (lineFeed ∷ drop (end + 1) text) (atLine s m k) (p .plain) (omega arith)
         ∙ ap (λ (a : Told State). (a then λ q. quiet (record { state = q; lines = suc k; line = [] })) then hears (drop (end + 1) text)) (line-answered (suc k))
 
 -- ---- lines one after another
@@ -124,20 +125,20 @@ length-nods zero = refl
 length-nods (suc n) = let e = length-nods n in omega arith
 
 -- before the first line
-pub none-passed : (s : Session) (flash sram usd : ℕ) (text : List ℕ) → PassesLines s flash sram usd text s 0 0
-none-passed s flash sram usd text = record {
+pub none-passed : (s : Session) (right : Bool) (text : List ℕ) → PassesLines s right text s 0 0
+none-passed s right text = record {
   within = omega arith;
   few = omega arith;
-  told = λ f r u ef er eu k. ap (λ (n : ℕ). hears text (atLine s f r u n)) (omega arith);
+  told = λ m e k. ap (λ (n : ℕ). hears text (atLine s m n)) (omega arith);
 }
 
 -- after one line more
-module _ (first s : Session) (flash sram usd : ℕ) (text : List ℕ) (lines i : ℕ) (p : PassesLines first flash sram usd text s lines i) (g : HearsFrames s flash sram usd)
+module _ (first s : Session) (right : Bool) (text : List ℕ) (lines i : ℕ) (p : PassesLines first right text s lines i) (g : HearsFrames s right)
     (end count : ℕ) (new : List ℕ) (l : SilentLine (s .step) (s .taken) (s .expected) (drop i text) end count new) where
   abbrev next : Session
   next = gathered (brought s (drop i text) end count new l) s
 
-  pub one-more : PassesLines first flash sram usd text next (lines + 1) (i + (end + 1))
+  pub one-more : PassesLines first right text next (lines + 1) (i + (end + 1))
   one-more =
       let d = length-drop i text in
       let w = l .first .within in
@@ -147,18 +148,18 @@ module _ (first s : Session) (flash sram usd : ℕ) (text : List ℕ) (lines i :
       record {
         within = omega arith;
         few = omega arith;
-        told = λ f r u ef er eu k.
-            let a = line-passed s (drop i text) end count new l f r u (rw (ef, er, eu) g) (k + lines) in
+        told = λ m e k.
+            let a = line-passed s (drop i text) end count new l m (rw e g) (k + lines) in
             let j : suc (k + lines) ≡ k + (lines + 1) = omega arith in
-            p .told f r u ef er eu k
-            ∙ ap (λ (x : Told Desk). behind (nods lines) x) (a ∙ ap₂ (λ (m : ℕ) (b : List ℕ). behind (answered ∷ lineFeed ∷ []) (hears b (atLine next f r u m))) j (drop-drop (end + 1) i text))
-            ∙ ap (λ (b : List ℕ). record { text = b; state = hears (drop (i + (end + 1)) text) (atLine next f r u (k + (lines + 1))) .state })
-            (sym (append-assoc (nods lines) (answered ∷ lineFeed ∷ []) (hears (drop (i + (end + 1)) text) (atLine next f r u (k + (lines + 1))) .text))
-            ∙ ap (λ (b : List ℕ). b ++ hears (drop (i + (end + 1)) text) (atLine next f r u (k + (lines + 1))) .text) (nods-more lines));
+            p .told m e k
+            ∙ ap (λ (x : Told Desk). behind (nods lines) x) (a ∙ ap₂ (λ (n : ℕ) (b : List ℕ). behind (answered ∷ lineFeed ∷ []) (hears b (atLine next m n))) j (drop-drop (end + 1) i text))
+            ∙ ap (λ (b : List ℕ). record { text = b; state = hears (drop (i + (end + 1)) text) (atLine next m (k + (lines + 1))) .state })
+            (sym (append-assoc (nods lines) (answered ∷ lineFeed ∷ []) (hears (drop (i + (end + 1)) text) (atLine next m (k + (lines + 1))) .text))
+            ∙ ap (λ (b : List ℕ). b ++ hears (drop (i + (end + 1)) text) (atLine next m (k + (lines + 1))) .text) (nods-more lines));
       }
 
-  one-more-hears : HearsFrames next flash sram usd
-  one-more-hears = still-hears s flash sram usd g (brought s (drop i text) end count new l) (still-short s (drop i text) end count new l)
+  one-more-hears : HearsFrames next right
+  one-more-hears = still-hears s right g (brought s (drop i text) end count new l) (still-short s (drop i text) end count new l)
 
   -- the session with its new bytes staged in place
   abbrev staging : List ℕ → Session
@@ -173,9 +174,9 @@ module _ (first s : Session) (flash sram usd : ℕ) (text : List ℕ) (lines i :
   }
 
   pub went-on : (b : List ℕ) → b ≡ put (s .staged) (s .taken) (take count new)
-      → HearsFrames (staging b) flash sram usd × PassesLines first flash sram usd text (staging b) (lines + 1) (i + (end + 1))
+      → HearsFrames (staging b) right × PassesLines first right text (staging b) (lines + 1) (i + (end + 1))
   went-on b e =
-      subst (λ (x : Session). HearsFrames x flash sram usd × PassesLines first flash sram usd text x (lines + 1) (i + (end + 1)))
+      subst (λ (x : Session). HearsFrames x right × PassesLines first right text x (lines + 1) (i + (end + 1)))
       (sym (ap staging e ∙ session-brought s (drop i text) end count new l)) (one-more-hears, one-more)
 
   -- the bytes are no more than a frame carries, and than are expected
@@ -185,10 +186,10 @@ module _ (first s : Session) (flash sram usd : ℕ) (text : List ℕ) (lines i :
       (omega (arith, l .counted, data-fits w (frame-good w (l .first .frame))), l .silent .short, one-more .within)
 
 -- a line was answered, and the lines that were then passed stand answered behind it
-pub gone-on : (d : Desk) (rest : List ℕ) (s next : Session) (f r u : List ℕ) (k lines n at mid end : ℕ) (out between : List ℕ)
-    → Tells (lineEnds d) at out mid between (atLine s f r u k) → PassesLines s (length f) (length r) (length u) rest next lines n → end ≡ mid + lines + lines
-    → Continues (hears (drop n rest) (atLine next f r u (k + lines))) end (put between mid (nods lines)) (lineEnds d then hears rest) at out
-gone-on d rest s next f r u k lines n at mid end out between h p e =
-    left-of-left (text-told (hears (drop n rest) (atLine next f r u (k + lines))) (nods lines) mid end between (omega (arith, e, length-nods lines)))
-    (subst (λ (x : Told Desk). Continues x mid between (lineEnds d then hears rest) at out) (p .told f r u refl refl refl k)
+pub gone-on : (d : Desk) (rest : List ℕ) (s next : Session) (m : Memories) (right : Bool) (k lines n at mid end : ℕ) (out between : List ℕ)
+    → Tells (lineEnds d) at out mid between (atLine s m k) → proper m ≡ right → PassesLines s right rest next lines n → end ≡ mid + lines + lines
+    → Continues (hears (drop n rest) (atLine next m (k + lines))) end (put between mid (nods lines)) (lineEnds d then hears rest) at out
+gone-on d rest s next m right k lines n at mid end out between h w p e =
+    left-of-left (text-told (hears (drop n rest) (atLine next m (k + lines))) (nods lines) mid end between (omega (arith, e, length-nods lines)))
+    (subst (λ (x : Told Desk). Continues x mid between (lineEnds d then hears rest) at out) (p .told m w k)
     (one-told (lineEnds d) (hears rest) (all-left (lineEnds d then hears rest) at out) h))

@@ -1,8 +1,10 @@
 -- Lines of frames that a session only gathers: each is answered by `>`, and the session has taken their bytes.
 use Prim.Native.Nat.{ℕ, zero, suc, _+_, _≤_}
 use mathlib.Core.Path.{_≡_}
+use mathlib.Core.Bool.{Bool}
 use mathlib.Core.List.{List, [], _∷_, _++_}
 use lib.ListN.{length, take, drop}
+use Rattle.memories.specs.Memories.{Memories, proper}
 use Rattle.boot.specs.Promise.{stateOf}
 use Rattle.boot.specs.declared.Session.{Session}
 use Rattle.gathering.specs.Gathering.{SilentFrame}
@@ -20,8 +22,8 @@ pub record SilentLine (step taken expected : ℕ) (text : List ℕ) (end count :
   pub bytes : take count new ≡ fields (drop idCharacters (behindLetter end text))
 
 -- the desk before a line begins
-abbrev pub atLine : Session → List ℕ → List ℕ → List ℕ → ℕ → Desk
-atLine s flash sram usd lines = record { state = stateOf s flash sram usd; lines = lines; line = [] }
+abbrev pub atLine : Session → Memories → ℕ → Desk
+atLine s m lines = record { state = stateOf s m; lines = lines; line = [] }
 
 -- the answers to so many lines that were understood and have no reply
 abbrev pub nods : ℕ → List ℕ
@@ -32,9 +34,10 @@ nods (suc n) = answered ∷ lineFeed ∷ nods n
 abbrev pub behind : {A : Type 0} → List ℕ → Told A → Told A
 behind l t = record { text = l ++ t .text; state = t .state }
 
--- the first n characters of a text are lines of frames that are only gathered, and leave another session
-pub record PassesLines (s : Session) (flash sram usd : ℕ) (text : List ℕ) (next : Session) (lines n : ℕ) : Type 0 where
+-- the first n characters of a text are lines of frames that are only gathered, and leave another session, by whatever memories that have their
+-- lengths or, as is said, have not
+pub record PassesLines (s : Session) (right : Bool) (text : List ℕ) (next : Session) (lines n : ℕ) : Type 0 where
   pub within : n ≤ length text
   pub few : lines + lines ≤ n
-  pub told : (f r u : List ℕ) → length f ≡ flash → length r ≡ sram → length u ≡ usd → (k : ℕ)
-      → hears text (atLine s f r u k) ≡ behind (nods lines) (hears (drop n text) (atLine next f r u (k + lines)))
+  pub told : (m : Memories) → proper m ≡ right → (k : ℕ)
+      → hears text (atLine s m k) ≡ behind (nods lines) (hears (drop n text) (atLine next m (k + lines)))

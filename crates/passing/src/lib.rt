@@ -1,3 +1,4 @@
+// Lines of frames that a session only gathers, which are taken many at a time.
 ghost use mathlib.Core.Path.{_≡_};
 ghost use Prim.Native.Nat.{_+_, _≤_, _<_};
 ghost use lib.ListN.{length};
@@ -28,7 +29,8 @@ pub struct Gathered {
 
 // Whether a text begins with the line of a frame that a step of CAN only gathers; its data bytes are put into a slice.
 fn silent_line(step: u8, taken: usize, expected: usize, text: &[u8], new: &mut [u8]) -> Silent
-    requires { ⌜ (taken ≤ expected) × (length (now new) ≡ classic .largest) ⌝ }
+    requires { ⌜ taken ≤ expected ⌝ }
+    requires { ⌜ length (now new) ≡ classic .largest ⌝ }
     ensures { λ r. ⌜ (0 < r .count → SilentLine step taken expected (now (text .entry)) (r .end) (r .count) (now (new .exit))) ⌝ }
 {
     let end = first::frame_first(text);
@@ -48,14 +50,14 @@ fn silent_line(step: u8, taken: usize, expected: usize, text: &[u8], new: &mut [
     }
 }
 
-// Takes at once the lines at the front of a text that write frames which the session only gathers, given the lengths of the memories.
-pub fn gather(session: Session, text: &[u8], flash: usize, sram: usize, usd: usize) -> Gathered
-    ensures { λ r. ⌜ PassesLines session flash sram usd (now (text .entry)) (r .session) (r .lines) (r .characters) ⌝ }
+// Takes at once the lines at the front of a text that write frames which the session only gathers, given whether the memories have their lengths.
+pub fn gather(session: Session, text: &[u8], right: bool) -> Gathered
+    ensures { λ r. ⌜ PassesLines session right (now (text .entry)) (r .session) (r .lines) (r .characters) ⌝ }
 {
     let mut here = session;
     let mut lines = 0u64;
     let mut i = 0;
-    let hears = gathering::hears_frames(session, flash, sram, usd);
+    let hears = gathering::hears_frames(session, right);
     if !hears {
         return Gathered {
             session: here,
@@ -91,7 +93,8 @@ pub fn gather(session: Session, text: &[u8], flash: usize, sram: usize, usd: usi
 // Answers so many lines that have no reply, and tells where the answers end.
 pub fn nod(lines: u64, out: &mut [u8], at: usize) -> usize
     requires { ⌜ at + lines + lines ≤ length (now out) ⌝ }
-    ensures { λ r. ⌜ (r ≡ at + lines + lines) × (now (out .exit) ≡ put (now (out .entry)) at (nods lines)) ⌝ }
+    ensures end { λ r. ⌜ r ≡ at + lines + lines ⌝ }
+    ensures text { λ _. ⌜ now (out .exit) ≡ put (now (out .entry)) at (nods lines) ⌝ }
 {
     let answer = [ANSWERED, LINE_FEED];
     let mut end = at;

@@ -17,12 +17,12 @@ pub all-fresh : {flash sram usd : List ℕ} → flash ≡ freshMemories .flash �
 all-fresh f s u = λ i. memories (f i) (s i) (u i)
 
 -- a desk that sits down at a fresh board
-pub sits-down : (s : Session) (line flash sram usd : List ℕ) → s ≡ fresh → memories flash sram usd ≡ freshMemories
-    → HasHeard (deskOf (record { session = s; lines = 0; kept = 0; end = 0 }) line flash sram usd)
+pub sits-down : (s : Session) (line : List ℕ) (m : Memories) → s ≡ fresh → m ≡ freshMemories
+    → HasHeard (deskOf (record { session = s; lines = 0; kept = 0; end = 0 }) line m)
 unfolding hears
-sits-down s line flash sram usd es em = record {
+sits-down s line m es em = record {
   text = [];
-  desk = ap₂ (λ (t : Session) (m : Memories). record { state = record { session = t; memories = m }; lines = 0; line = [] }) es em;
+  desk = ap₂ (λ (t : Session) (n : Memories). record { state = record { session = t; memories = n }; lines = 0; line = [] }) es em;
 }
 
 -- one turn more

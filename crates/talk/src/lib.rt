@@ -2,7 +2,7 @@
 ghost use mathlib.Core.Path.{_≡_};
 ghost use Prim.Native.Nat.{_+_, _^_, _≤_, _<_};
 ghost use lib.ListN.{length};
-ghost use Rattle.memories.specs.Lent.{held, are};
+ghost use Rattle.memories.specs.Lent.{held, were, are};
 ghost use Rattle.memories.specs.Memories.{freshMemories};
 ghost use Rattle.answers.specs.Desk.{keptCharacters};
 ghost use Rattle.hearing.specs.Promise.{deskOf};
@@ -71,10 +71,12 @@ fn turn(
     usd: &mut [u8],
     out: &mut [u8],
 ) -> Turned
-    requires { ⌜ Ready desk (now line) (now out) × (desk .lines + readCharacters < 2 ^ 64) ⌝ }
-    ensures ready { λ r. ⌜ Ready (r .desk) (now (line .exit)) (now (out .exit)) × (r .desk .lines ≤ desk .lines + readCharacters) ⌝ }
-    ensures heard { λ r. ⌜ Turns (deskOf desk (now (line .entry)) (now (flash .entry)) (now (sram .entry)) (now (usd .entry))) (now (out .entry))
-        (deskOf (r .desk) (now (line .exit)) (now (flash .exit)) (now (sram .exit)) (now (usd .exit))) (now (out .exit)) ⌝ }
+    requires { ⌜ Ready desk (now line) (now out) ⌝ }
+    requires { ⌜ desk .lines + readCharacters < 2 ^ 64 ⌝ }
+    ensures ready { λ r. ⌜ Ready (r .desk) (now (line .exit)) (now (out .exit)) ⌝ }
+    ensures few { λ r. ⌜ r .desk .lines ≤ desk .lines + readCharacters ⌝ }
+    ensures heard { λ r. ⌜ Turns (deskOf desk (now (line .entry)) (were flash sram usd)) (now (out .entry))
+        (deskOf (r .desk) (now (line .exit)) (are flash sram usd)) (now (out .exit)) ⌝ }
 {
     let mut input = [0u8; READ_CHARACTERS];
     let got = libc::read(from, &mut input);
@@ -113,7 +115,9 @@ fn sit(
     usd: &mut [u8],
     out: &mut [u8],
 )
-    requires { ⌜ (length (now line) ≡ keptCharacters) × (outCharacters ≤ length (now out)) × (held flash sram usd ≡ freshMemories) ⌝ }
+    requires { ⌜ length (now line) ≡ keptCharacters ⌝ }
+    requires { ⌜ outCharacters ≤ length (now out) ⌝ }
+    requires { ⌜ held flash sram usd ≡ freshMemories ⌝ }
     ensures { λ _. ⌜ LeftBy (are flash sram usd) ⌝ }
 {
     let mut desk = Desk {

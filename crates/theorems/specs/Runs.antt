@@ -5,7 +5,7 @@ use mathlib.Core.List.{List, [], _∷_, _++_}
 use lib.Dec.{T, eqb}
 use lib.ListN.{length, take, drop}
 use Rattle.board.specs.Usd.{protectionOn}
-use Rattle.memories.specs.Memories.{Memories, proper}
+use Rattle.memories.specs.Memories.{Memories, memories, proper}
 use Rattle.boot.specs.Calls.{State, powered}
 use Rattle.boot.specs.Promise.{PoweredOn, Left, left, stateOf, givenByte, givenFrame, Took}
 use Rattle.boot.specs.declared.Session.{Session}
@@ -25,7 +25,7 @@ Kept (TakeFrame buffer frame) p l = Took (givenFrame (p .session) frame (p .memo
 
 -- the board as a call has left it
 abbrev pub boardIn : Left → State
-boardIn l = stateOf (l .result .session) (l .flash) (l .sram) (l .usd)
+boardIn l = stateOf (l .result .session) (memories (l .flash) (l .sram) (l .usd))
 
 -- calls on a board have left this, one by one, each on the board as the one before it left it
 abbrev pub Ran : List Call → State → List Left → Type 0

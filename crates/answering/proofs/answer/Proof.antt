@@ -2,6 +2,7 @@
 use borrow.Author.Needs.{needs}
 use native.Mathlib.Omega.{arith}
 use mathlib.Core.Path.{refl}
+use Rattle.memories.specs.Lent.{held}
 use Rattle.boot.specs.Promise.{stateOf}
 use Rattle.answers.specs.Answers.{answer, answerBy}
 use Rattle.answers.proofs.Telling.{obeyed-by}
@@ -15,8 +16,8 @@ returns c =
     let after-enum-told = after-disobey .before .before in
     let after-kind = after-enum-told .before .before in (
       rw (← after-kind .kind .ensures, after-enum-told .enum-told .given .1)
-          (record { end = (after-disobey .disobey .ensures .0); text = (after-disobey .disobey .ensures .2); state = refl }),
-      omega (arith, after-disobey .disobey .ensures .1),
+          (record { end = (after-disobey .disobey .ensures .0); text = (after-disobey .disobey .ensures .1 .1); state = refl }),
+      omega (arith, after-disobey .disobey .ensures .1 .0),
     )
 
 returns-2 : tie.Need-returns-2
@@ -29,7 +30,7 @@ returns-2 c =
       rw (
         ← after-kind .kind .ensures,
         obeyed-by (after-kind .kind .result) (start .args .number) (start .args .line .now)
-            (stateOf (start .args .session) (start .args .flash .now) (start .args .sram .now) (start .args .usd .now))
+            (stateOf (start .args .session) (held (start .args .flash) (start .args .sram) (start .args .usd)))
             (at-match-keys2 .match .keys2),
       ) (after-obey .obey .ensures .0),
       after-obey .obey .ensures .1,

@@ -21,10 +21,12 @@ returns c =
     let start = after-copy .before .before .before .before in
     let l = length-notice (start .args .number) in (
       omega (arith, l, after-number .number .ensures .0),
-      omega (arith, after-number .number .ensures .1),
-      noticed (start .args .number) (start .args .at) (after-number .number .result) (start .args .out .now)
-          (after-number .number .last .1 .0) (after-number .number .ensures .0)
-          (rw (after-copy .copy .ensures) at (after-number .number .ensures .2)),
+      (
+        omega (arith, after-number .number .ensures .1),
+        noticed (start .args .number) (start .args .at) (after-number .number .result) (start .args .out .now)
+            (after-number .number .last .1 .0) (after-number .number .ensures .0)
+            (rw (after-copy .copy .ensures) at (after-number .number .ensures .2)),
+      ),
     )
 
 pub disobey-spec : {M : Type 1} → statement M

@@ -3,6 +3,8 @@ use borrow.Author.Needs.{needs}
 use native.Mathlib.Omega.{arith}
 use mathlib.Core.Path.{_∙_}
 use lib.ListN.{length-set}
+use Rattle.memories.specs.Lent.{held}
+use Rattle.memories.specs.Memories.{memories}
 use Rattle.boot.specs.Promise.{stateOf}
 use Rattle.answers.specs.Answers.{callsOf, tells}
 use Rattle.answers.proofs.Telling.{obeyed-told}
@@ -34,10 +36,10 @@ returns c =
     let after-tell-line = c .before .before .before .before .before .before .before .before .before in
     let start = after-tell-line .before .before .before .before .before .before .before .before .before .before in (
       obeyed-told (tells (callsOf (start .args .kind) (start .args .line .now))
-          (stateOf (start .args .session) (start .args .flash .now) (start .args .sram .now) (start .args .usd .now))) (start .args .at)
+          (stateOf (start .args .session) (held (start .args .flash) (start .args .sram) (start .args .usd)))) (start .args .at)
           (after-tell-line .tell-line .result .end) (start .args .out .now) (after-tell-line .tell-line .last .1 .1 .1 .1 .1 .1 .0)
-          (stateOf (after-tell-line .tell-line .result .session) (after-tell-line .tell-line .last .1 .1 .1 .0)
-          (after-tell-line .tell-line .last .1 .1 .1 .1 .0) (after-tell-line .tell-line .last .1 .1 .1 .1 .1 .0))
+          (stateOf (after-tell-line .tell-line .result .session) (memories (after-tell-line .tell-line .last .1 .1 .1 .0)
+          (after-tell-line .tell-line .last .1 .1 .1 .1 .0) (after-tell-line .tell-line .last .1 .1 .1 .1 .1 .0)))
           (after-tell-line .tell-line .ensures .0),
       omega (arith, after-tell-line .tell-line .ensures .1),
     )

@@ -85,7 +85,7 @@ returns-2 c =
     let f =
     at-front (fields (take (3 * n) (start .args .rest .now))) (replicate 257 0) n (p .count)
     (omega (arith, g .short, sound-expected (start .args .session) (g .firm), length-replicate {A = ℕ} 257 0)) in
-    passed (start .args .session) (start .args .flash) (start .args .sram) (start .args .usd) (start .args .rest .now) n (start .pre)
+    passed (start .args .session) (start .args .right) (start .args .rest .now) n (start .pre)
     (omega (arith, after-silent-bytes .silent-bytes .ensures .0)) k g (c .gather .result)
     (c .gather .ensures ∙ ap (λ (l : List ℕ). gathered l (start .args .session))
     (ap (λ (l : List ℕ). take n l) (after-bytes .bytes .ensures .1) ∙ f))

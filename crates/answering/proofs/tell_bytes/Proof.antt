@@ -1,12 +1,15 @@
 -- Each turn takes at once what is only gathered, makes the call of one field more and prints its reply; before it, what is left ends as the whole does.
+use borrow.Author.Needs.{needs}
 use native.Mathlib.Omega.{arith}
-use mathlib.Core.Path.{_≡_, refl, _∙_}
+use mathlib.Core.Path.{_≡_, refl, sym, _∙_}
 use mathlib.Core.List.{map}
 use Prim.Native.Nat.{ℕ, _≤_, _<_, _-_, _+_, _*_}
 use lib.Dec.{T}
 use lib.ListN.{length, drop}
 use lib.Seq.{drop-length}
 use Rattle.words.proofs.Slices.{to-the-end}
+use Rattle.memories.specs.Lent.{held}
+use Rattle.memories.specs.Memories.{Memories, memories}
 use Rattle.boot.specs.Calls.{Byte}
 use Rattle.boot.specs.Promise.{stateOf}
 use Rattle.lines.specs.Lines.{areFields, fields}
@@ -19,26 +22,33 @@ use Rattle.answering.proofs.tell_bytes.Statement.{statement}
 use Rattle.answering.proofs.tell_bytes.Tie as tie
 
 abbrev Inv-loop : tie.InvT-loop
-Inv-loop rest flash₀ sram₀ usd₀ out₀ at n told₀ i₀ flash sram usd out told i =
+Inv-loop rest flash₀ sram₀ usd₀ out₀ at n right told₀ i₀ flash sram usd out told i =
     (i ≤ n)
     × T (areFields (drop i rest))
     × (told .end ≤ at + deskRoom * i)
-    × Continues (tells (map (Byte deskRoom) (fields (drop i rest))) (stateOf (told .session) flash sram usd)) (told .end) out
-    (tells (map (Byte deskRoom) (fields rest)) (stateOf (told₀ .session) flash₀ sram₀ usd₀)) at out₀
+    × Continues (tells (map (Byte deskRoom) (fields (drop i rest))) (stateOf (told .session) (memories flash sram usd))) (told .end) out
+    (tells (map (Byte deskRoom) (fields rest)) (stateOf (told₀ .session) (memories flash₀ sram₀ usd₀))) at out₀
     × (length flash ≡ length flash₀)
     × (length sram ≡ length sram₀)
     × (length usd ≡ length usd₀)
     × (length out ≡ length out₀)
 
 abbrev μ-loop : tie.MeasureT-loop
-μ-loop rest flash₀ sram₀ usd₀ out₀ at n told₀ i₀ flash sram usd out told i = n - i
+μ-loop rest flash₀ sram₀ usd₀ out₀ at n right told₀ i₀ flash sram usd out told i = n - i
 
--- the turn in which bytes were passed, and the start of the call
+-- the turn in which bytes were passed, the test of the lengths before the turns, and the start of the call
 abbrev here : tie.After-pass Inv-loop μ-loop → tie.At-loop Inv-loop μ-loop
 here c = c .before .before .before .before
 
+abbrev tested : tie.After-pass Inv-loop μ-loop → tie.After-lengths-right Inv-loop μ-loop
+tested c = here c .before
+
 abbrev start : tie.After-pass Inv-loop μ-loop → tie.Start Inv-loop μ-loop
-start c = here c .before .before .before .before .before .before
+start c = tested c .before .before .before .before .before .before
+
+-- the memories in that turn
+abbrev lent : tie.After-pass Inv-loop μ-loop → Memories
+lent c = memories (here c .loop .flash) (here c .loop .sram) (here c .loop .usd)
 
 -- where the characters stand that are left
 abbrev next : tie.After-pass Inv-loop μ-loop → ℕ
@@ -47,14 +57,15 @@ next c = here c .loop .i + c .pass .result .characters
 -- what is left is told as before
 passed : (c : tie.After-pass Inv-loop μ-loop)
     → Left (start c .args .rest .now) (here c .loop .i) (c .pass .result .characters) (c .pass .result .session)
-    (here c .loop .flash) (here c .loop .sram) (here c .loop .usd) (here c .loop .told .end) (here c .loop .out)
+    (lent c) (here c .loop .told .end) (here c .loop .out)
     (tells (map (Byte deskRoom) (fields (start c .args .rest .now)))
-    (stateOf (start c .args .session) (start c .args .flash .now) (start c .args .sram .now) (start c .args .usd .now)))
+    (stateOf (start c .args .session) (held (start c .args .flash) (start c .args .sram) (start c .args .usd))))
     (start c .args .at) (start c .args .out .now)
 passed c =
+    let inv = here c .loop .inv in
     passed-on (start c .args .rest .now) (here c .loop .i) (c .pass .result .characters) (here c .loop .told .session)
-    (c .pass .result .session) (here c .loop .flash) (here c .loop .sram) (here c .loop .usd) (here c .loop .inv .0)
-    (c .pass .ensures) (here c .loop .inv .3)
+    (c .pass .result .session) (lent c) (tested c .lengths-right .result) (inv .0)
+    (rw (inv .4, inv .5, inv .6) (sym (tested c .lengths-right .ensures))) (c .pass .ensures) (inv .3)
 
 -- the call of the next field: it stands within the characters, and fields follow
 field : (c : tie.Else1 Inv-loop μ-loop)
@@ -68,7 +79,7 @@ field c =
 pass-requires : tie.Need-pass-requires Inv-loop μ-loop
 pass-requires c κs =
     let at-loop = c .before .before .before in
-    let rest = at-loop .before .before .before .before .before .before .args .rest .now in
+    let rest = at-loop .before .before .before .before .before .before .before .args .rest .now in
     rw (to-the-end (at-loop .loop .i) rest) (at-loop .loop .inv .1)
 
 add-i : tie.Need-add-i Inv-loop μ-loop
@@ -114,7 +125,7 @@ loop-again-2 c =
     let after-pass = else1 .before .before .before in
     let rest = start after-pass .args .rest .now in
     let loop = here after-pass .loop in
-    let p = stateOf (after-pass .pass .result .session) (loop .flash) (loop .sram) (loop .usd) in
+    let p = stateOf (after-pass .pass .result .session) (lent after-pass) in
     let k = after-tell-byte .tell-byte .kept in (
       omega (arith, field else1 .0),
       field else1 .1,
@@ -133,9 +144,9 @@ returns : tie.Need-returns Inv-loop μ-loop
 unfolding tells
 returns c =
     let loop = c .before .loop in
-    let rest = c .before .before .before .before .before .before .before .args .rest .now in
+    let rest = c .before .before .before .before .before .before .before .before .args .rest .now in
     let e : loop .i ≡ length rest = omega arith in (
-      none-left (stateOf (loop .told .session) (loop .flash) (loop .sram) (loop .usd)) (rw (e, drop-length rest) at (loop .inv .3)),
+      none-left (stateOf (loop .told .session) (memories (loop .flash) (loop .sram) (loop .usd))) (rw (e, drop-length rest) at (loop .inv .3)),
       omega (arith, loop .inv .2),
     )
 
@@ -145,7 +156,8 @@ tell-bytes-spec =
     (tie.spec
     Inv-loop
     μ-loop
-    (λ c. (omega arith, c .before .before .before .before .before .pre .0, omega arith, all-left _ _ _, refl, refl, refl, refl))
+    (λ c κs. search needs)
+    (λ c. (omega arith, c .before .before .before .before .before .before .pre .0, omega arith, all-left _ _ _, refl, refl, refl, refl))
     (λ c. omega arith)
     (λ c. omega arith)
     (λ c. omega arith)

@@ -8,7 +8,7 @@ use lib.ListN.{length, take, replicate}
 use lib.Seq.{length-take-le}
 use Rattle.frames.specs.Frames.{classic, frameBytes}
 use Rattle.memories.specs.Lent.{held}
-use Rattle.memories.specs.Memories.{memories}
+use Rattle.memories.specs.Memories.{Memories, memories}
 use Rattle.boot.specs.Calls.{Framed}
 use Rattle.boot.specs.Promise.{Left, left, Given, givenFrame, stateOf, outcome}
 use Rattle.lines.proofs.Lines.{frame-good}
@@ -25,16 +25,18 @@ made c = c .before .before .before .before .before .before .before
 abbrev start : tie.After-take-frame → tie.Start
 start c = made c .before .before .before .before .before .before .before
 
--- what the call was given, and what it left
+-- the memories before the call and after it, what it was given, and what it left
+abbrev before : tie.After-take-frame → Memories
+before c = held (start c .args .flash) (start c .args .sram) (start c .args .usd)
+
+abbrev after : tie.After-take-frame → Memories
+after c = let last = c .take-frame .last in memories (last .1 .1 .0) (last .1 .1 .1 .0) (last .1 .1 .1 .1 .0)
+
 abbrev given : tie.After-take-frame → Given
-given c =
-    givenFrame (start c .args .session) (made c .frame .last .1 .0) (held (start c .args .flash) (start c .args .sram)
-    (start c .args .usd)) (replicate deskRoom 0)
+given c = givenFrame (start c .args .session) (made c .frame .last .1 .0) (before c) (replicate deskRoom 0)
 
 abbrev leaves : tie.After-take-frame → Left
-leaves c =
-    let last = c .take-frame .last in
-    left (c .take-frame .result) (memories (last .1 .1 .0) (last .1 .1 .1 .0) (last .1 .1 .1 .1 .0)) (last .1 .1 .1 .1 .1 .0)
+leaves c = left (c .take-frame .result) (after c) (c .take-frame .last .1 .1 .1 .1 .1 .0)
 
 -- its reply is no longer than the room lent for it, and stands there whole
 fits : (c : tie.After-take-frame) → c .take-frame .result .length ≤ deskRoom
@@ -71,13 +73,13 @@ returns c =
     let out = printed .last .1 .0 in
     let o = frame-good (args .rest .now) (start taken .pre .0) in
     let p = given taken .state in
-    let q = stateOf (taken .take-frame .result .session) (leaves taken .flash) (leaves taken .sram) (leaves taken .usd) in (
+    let q = stateOf (taken .take-frame .result .session) (after taken) in (
       subst (λ (w : List ℕ). Tells (tells (Framed deskRoom w ∷ []) p) (args .at) (args .out .now) (printed .result) out q)
           (made taken .frame .ensures)
           (one-call (Framed deskRoom frame) p (args .at) (printed .result) (args .out .now) out q
-          (input-told (λ (n : ℕ). Framed n frame) (args .session) (args .flash .now) (args .sram .now) (args .usd .now)
-          (replicate deskRoom 0) refl (leaves taken) (taken .take-frame .ensures) (args .at) (printed .result) (args .out .now) out
-          (printed .ensures .0) (printed .ensures .2))),
+          (input-told (λ (n : ℕ). Framed n frame) (args .session) (before taken) (replicate deskRoom 0) refl
+          (taken .take-frame .result) (after taken) (leaves taken .buffer) (taken .take-frame .ensures) (args .at) (printed .result)
+          (args .out .now) out (printed .ensures .0) (printed .ensures .2))),
       omega (arith, printed .ensures .1, whole taken, fits taken, o .long),
     )
 

@@ -4,6 +4,7 @@ use native.Mathlib.Omega.{arith}
 use mathlib.Core.Path.{sym, _∙_}
 use lib.ListN.{length-drop}
 use Rattle.words.proofs.Slices.{to-the-end}
+use Rattle.memories.specs.Lent.{held}
 use Rattle.boot.specs.Calls.{powered}
 use Rattle.boot.specs.Promise.{stateOf}
 use Rattle.lines.proofs.Lines.{bytes-line, frame-line}
@@ -78,10 +79,10 @@ returns-3 c =
     let start = after-enum-told3 .before .before .before .before .before .before .before in (
       rw (
         after-enum-told3 .enum-told3 .given .1,
-        power-told (stateOf (start .args .session) (start .args .flash .now) (start .args .sram .now) (start .args .usd .now)),
+        power-told (stateOf (start .args .session) (held (start .args .flash) (start .args .sram) (start .args .usd))),
         c .power-on .ensures .session,
-      ) (nothing-told (powered ((stateOf (start .args .session) (start .args .flash .now) (start .args .sram .now)
-          (start .args .usd .now)) .memories)) (start .args .at) (start .args .out .now)),
+      ) (nothing-told (powered (held (start .args .flash) (start .args .sram) (start .args .usd))) (start .args .at)
+          (start .args .out .now)),
       omega arith,
     )
 
@@ -89,8 +90,8 @@ returns-4 : tie.Need-returns-4
 unfolding tells
 returns-4 c =
     let start = c .before .before .before .before .before .before .before in (
-      rw (c .enum-told4 .given .1) (nothing-told (stateOf (start .args .session) (start .args .flash .now) (start .args .sram .now)
-          (start .args .usd .now)) (start .args .at) (start .args .out .now)),
+      rw (c .enum-told4 .given .1) (nothing-told (stateOf (start .args .session) (held (start .args .flash) (start .args .sram)
+          (start .args .usd))) (start .args .at) (start .args .out .now)),
       omega arith,
     )
 

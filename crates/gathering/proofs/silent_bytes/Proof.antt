@@ -2,7 +2,6 @@
 use borrow.Author.Needs.{needs}
 use native.Mathlib.Omega.{arith}
 use lib.Dec.{T}
-use Rattle.memories.specs.Memories.{lengthsRight}
 use Rattle.boot.specs.Session.{on, sound}
 use Rattle.carriers.specs.declared.Carrier.the-variants.{Uart}
 use Rattle.boot.proofs.Sound.{sound-taken}
@@ -12,19 +11,15 @@ use Rattle.gathering.proofs.silent_bytes.Tie as tie
 
 -- the start of the call whose test held
 abbrev start : tie.Then1 → tie.Start
-start c = c .before .before .before .before
+start c = c .before .before .before
 
--- what the test has shown of the lengths and the session
-tested : (c : tie.Then1)
-    → T (lengthsRight (start c .args .flash) (start c .args .sram) (start c .args .usd)) × T (on Uart (start c .args .session))
-    × T (sound (start c .args .session))
+-- what the test has shown of the memories and the session
+tested : (c : tie.Then1) → T (start c .args .right) × T (on Uart (start c .args .session)) × T (sound (start c .args .session))
 tested c =
     let after-sound = c .before in
     let after-on = after-sound .before in
-    let after-lengths-right = after-on .before in
-    all-three (lengthsRight (start c .args .flash) (start c .args .sram) (start c .args .usd)) (on Uart (start c .args .session))
-    (sound (start c .args .session))
-    (rw (after-lengths-right .lengths-right .ensures, after-on .on .ensures, after-sound .sound .ensures) at (c .if1 .taken))
+    all-three (start c .args .right) (on Uart (start c .args .session)) (sound (start c .args .session))
+    (rw (after-on .on .ensures, after-sound .sound .ensures) at (c .if1 .taken))
 
 sub-least : tie.Need-sub-least
 sub-least c = omega (arith, sound-taken (start (c .before) .args .session) (tested (c .before) .2))
@@ -49,7 +44,6 @@ pub silent-bytes-spec : {M : Type 1} → statement M
 silent-bytes-spec =
     tie.close
     (tie.spec
-    (λ c κs. search needs)
     (λ c κs. search needs)
     (λ c κs. search needs)
     sub-least

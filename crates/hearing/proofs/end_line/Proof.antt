@@ -6,6 +6,8 @@ use mathlib.Core.Path.{_≡_, refl, sym}
 use Prim.Native.Nat.{suc, _+_}
 use lib.ListN.{take}
 use lib.Seq.{length-take-le}
+use Rattle.memories.specs.Lent.{held}
+use Rattle.memories.specs.Memories.{memories}
 use Rattle.boot.specs.Calls.{State}
 use Rattle.boot.specs.Promise.{stateOf}
 use Rattle.answers.specs.Answers.{answer}
@@ -31,12 +33,12 @@ returns c =
     let e : suc n ≡ n + 1 = omega arith in
     let b = rw (length-take-le (start .args .desk .kept) (start .args .line .now) (start .pre .0)) at (after-answer .answer .ensures .1) in (
       rw e (told-as (answer (n + 1) (take (start .args .desk .kept) (start .args .line .now))
-          (stateOf (start .args .desk .session) (start .args .flash .now) (start .args .sram .now) (start .args .usd .now)))
+          (stateOf (start .args .desk .session) (held (start .args .flash) (start .args .sram) (start .args .usd))))
           (λ (p : State). record { state = p; lines = n + 1; line = [] }) (start .args .desk .end) (after-answer .answer .result .end)
           (start .args .out .now) (after-answer .answer .last .1 .1 .1 .1 .1 .1 .0)
-          (stateOf (after-answer .answer .result .session) (after-answer .answer .last .1 .1 .1 .0)
-          (after-answer .answer .last .1 .1 .1 .1 .0) (after-answer .answer .last .1 .1 .1 .1 .1 .0)) (after-answer .answer .ensures .0)),
-      (b, refl, refl),
+          (stateOf (after-answer .answer .result .session) (memories (after-answer .answer .last .1 .1 .1 .0)
+          (after-answer .answer .last .1 .1 .1 .1 .0) (after-answer .answer .last .1 .1 .1 .1 .1 .0))) (after-answer .answer .ensures .0)),
+      (b, (refl, refl)),
     )
 
 pub end-line-spec : {M : Type 1} → statement M

@@ -9,16 +9,14 @@ returns : tie.Need-returns
 returns c =
     let start = c .before in (
       kept-stored (start .args .line .now) (start .args .kept) (start .args .character) (start .pre .0) (c .if1 .taken),
-      omega arith,
-      omega arith,
+      (omega arith, omega arith),
     )
 
 returns-2 : tie.Need-returns-2
 returns-2 c =
     let start = c .before in (
       kept-full (start .args .line .now) (start .args .kept) (start .args .character) (start .pre .0) (start .pre .1) (c .if1 .left),
-      omega arith,
-      omega arith,
+      (omega arith, omega arith),
     )
 
 pub keep-spec : {M : Type 1} → statement M

@@ -15,11 +15,11 @@ use Rattle.passing.proofs.gather.Statement.{statement}
 use Rattle.passing.proofs.gather.Tie as tie
 
 abbrev Inv-loop : tie.InvT-loop
-Inv-loop text flash sram usd here₀ lines₀ i₀ hears n new₀ here lines i new =
-    (i ≤ n) × (length new ≡ 8) × HearsFrames here flash sram usd × PassesLines here₀ flash sram usd text here lines i
+Inv-loop text right here₀ lines₀ i₀ hears n new₀ here lines i new =
+    (i ≤ n) × (length new ≡ 8) × HearsFrames here right × PassesLines here₀ right text here lines i
 
 abbrev μ-loop : tie.MeasureT-loop
-μ-loop text flash sram usd here₀ lines₀ i₀ hears n new₀ here lines i new = n - i
+μ-loop text right here₀ lines₀ i₀ hears n new₀ here lines i new = n - i
 
 -- the turn in which a line was found that is only gathered, what was found, and the start of the call
 abbrev here : tie.Else2 Inv-loop μ-loop → tie.At-loop Inv-loop μ-loop
@@ -45,14 +45,13 @@ brought : (c : tie.Else2 Inv-loop μ-loop)
     × (here c .loop .here .taken + found c .silent-line .result .count < here c .loop .here .expected)
     × (here c .loop .i + (found c .silent-line .result .end + 1) ≤ length (start c .args .text .now))
 brought c =
-    few-brought (start c .args .session) (here c .loop .here) (start c .args .flash) (start c .args .sram) (start c .args .usd)
-    (start c .args .text .now) (here c .loop .lines) (here c .loop .i) (here c .loop .inv .3) (here c .loop .inv .2)
+    few-brought (start c .args .session) (here c .loop .here) (start c .args .right) (start c .args .text .now) (here c .loop .lines) (here c .loop .i) (here c .loop .inv .3) (here c .loop .inv .2)
     (found c .silent-line .result .end) (found c .silent-line .result .count) (found c .silent-line .last .1 .1 .1 .1 .0) (silent c)
 
 loop-holds : tie.Need-loop-holds Inv-loop μ-loop
 loop-holds c =
     let hears = c .before .hears-frames in
-    (omega arith, refl, hears .ensures (subst T (sym (not-false (hears .result) (c .if1 .left))) tt), none-passed _ _ _ _ _)
+    (omega arith, refl, hears .ensures (subst T (sym (not-false (hears .result) (c .if1 .left))) tt), none-passed _ _ _)
 
 silent-line-requires : tie.Need-silent-line-requires Inv-loop μ-loop
 silent-line-requires c κs =
@@ -96,7 +95,7 @@ loop-again c =
     let line = found else2 .silent-line in
     let new = line .last .1 .1 .1 .1 .0 in
     let w =
-    went-on (args .session) (loop .here) (args .flash) (args .sram) (args .usd) (args .text .now) (loop .lines) (loop .i)
+    went-on (args .session) (loop .here) (args .right) (args .text .now) (loop .lines) (loop .i)
     (loop .inv .3) (loop .inv .2) (line .result .end) (line .result .count) new (silent else2) (stage .last .0) (stage .ensures) in
     (brought else2 .2, line .kept .1 .1 .1 .1 .0 ∙ loop .inv .1, w .0, w .1)
 
@@ -107,7 +106,7 @@ gather-spec =
     Inv-loop
     μ-loop
     (λ c κs. search needs)
-    (λ c. none-passed _ _ _ _ _)
+    (λ c. none-passed _ _ _)
     loop-holds
     (λ c. omega arith)
     (λ c. omega arith)

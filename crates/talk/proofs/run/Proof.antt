@@ -10,8 +10,10 @@ sit-requires c κs =
     let after-fresh-sram = after-fresh-usd .before in
     let after-fresh-flash = after-fresh-sram .before in (
       search needs,
-      search needs,
-      all-fresh (after-fresh-flash .fresh-flash .ensures) (after-fresh-sram .fresh-sram .ensures) (after-fresh-usd .fresh-usd .ensures),
+      (
+        search needs,
+        all-fresh (after-fresh-flash .fresh-flash .ensures) (after-fresh-sram .fresh-sram .ensures) (after-fresh-usd .fresh-usd .ensures),
+      ),
     )
 
 pub run-spec : {M : Type 1} → statement M

@@ -5,6 +5,7 @@ use mathlib.Core.Path.{_≡_, refl, sym, _∙_}
 use Prim.Native.Nat.{_≤_, _+_, _*_, _^_}
 use lib.ListN.{length}
 use lib.Seq.{length-take-le}
+use Rattle.memories.specs.Memories.{memories}
 use Rattle.hearing.specs.Promise.{deskOf}
 use Rattle.talk.specs.Turns.{readCharacters, Ready, HasHeard}
 use Rattle.talk.proofs.Hearing.{sits-down, one-more, gets-up}
@@ -20,7 +21,7 @@ Inv-loop from to line₀ flash₀ sram₀ usd₀ out₀ desk₀ turns₀ line fl
     × (length sram ≡ length sram₀)
     × (length usd ≡ length usd₀)
     × (length out ≡ length out₀)
-    × HasHeard (deskOf desk line flash sram usd)
+    × HasHeard (deskOf desk line (memories flash sram usd))
 
 abbrev μ-loop : tie.MeasureT-loop
 μ-loop from to line₀ flash₀ sram₀ usd₀ out₀ desk₀ turns₀ line flash sram usd out desk turns = turns
@@ -28,14 +29,14 @@ abbrev μ-loop : tie.MeasureT-loop
 loop-holds : tie.Need-loop-holds Inv-loop μ-loop
 loop-holds c =
     let start = c .before .before .before .before .before .before in (
-      record { room = (start .pre .0); kept = omega arith; written = refl; answers = (start .pre .1) },
+      record { room = (start .pre .0); kept = omega arith; written = refl; answers = (start .pre .1 .0) },
       omega arith,
       refl,
       refl,
       refl,
       refl,
       refl,
-      sits-down _ (start .args .line .now) _ _ _ (c .power-on .ensures .session) (start .pre .2),
+      sits-down _ (start .args .line .now) _ (c .power-on .ensures .session) (start .pre .1 .1),
     )
 
 turn-requires : tie.Need-turn-requires Inv-loop μ-loop
@@ -48,21 +49,21 @@ loop-again c =
     let after-turn = c .before .before .before .before .before .before .before .before .before .before .before .before in
     let at-loop = after-turn .before .before .before .before .before .before .before in
     let k = after-turn .turn .kept in (
-      after-turn .turn .ensures .0 .0,
-      omega (arith, after-turn .turn .ensures .0 .1, c .turns-left .ensures, at-loop .loop .inv .1),
+      after-turn .turn .ensures .0,
+      omega (arith, after-turn .turn .ensures .1 .0, c .turns-left .ensures, at-loop .loop .inv .1),
       k .1 .1 .1 .0 ∙ at-loop .loop .inv .2,
       k .1 .1 .1 .1 .0 ∙ at-loop .loop .inv .3,
       k .1 .1 .1 .1 .1 .0 ∙ at-loop .loop .inv .4,
       k .1 .1 .1 .1 .1 .1 .0 ∙ at-loop .loop .inv .5,
       k .1 .1 .1 .1 .1 .1 .1 .0 ∙ at-loop .loop .inv .6,
-      one-more (at-loop .loop .inv .7) (after-turn .turn .ensures .1),
+      one-more (at-loop .loop .inv .7) (after-turn .turn .ensures .1 .1),
     )
 
 finish-requires : tie.Need-finish-requires Inv-loop μ-loop
 finish-requires c κs =
     let at-loop = c .before .before .before .before .before .before in
     let r = at-loop .loop .inv .0 in
-    (omega (arith, r .room, r .kept), omega (arith, at-loop .loop .inv .1), omega (arith, r .kept, r .written, r .answers))
+    (omega (arith, r .room, r .kept), (omega (arith, at-loop .loop .inv .1), omega (arith, r .kept, r .written, r .answers)))
 
 slice-reshare-prefix-write-all : tie.Need-slice-reshare-prefix-write-all Inv-loop μ-loop
 slice-reshare-prefix-write-all c =

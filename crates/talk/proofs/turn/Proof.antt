@@ -23,8 +23,8 @@ returns : tie.Need-returns
 unfolding hears
 returns c =
     let start = c .before .before .before .before .before .before .before .before .before .before .before in (
-      search needs,
-      record { text = []; few = omega arith; desk = refl; told = sym (over-none newer (start .args .out .now) 0) },
+      start .pre .0,
+      (omega arith, record { text = []; few = omega arith; desk = refl; told = sym (over-none newer (start .args .out .now) 0) }),
     )
 
 returns-2 : tie.Need-returns-2
@@ -35,27 +35,27 @@ returns-2 c =
     let start = after-read .before .before .before .before .before .before .before in
     let k = after-hear .hear .kept .1 .1 .1 .1 .1 .1 .0 in
     let told = after-hear .hear .ensures .0 in (
+      record {
+        room = after-hear .hear .kept .1 .1 .0 ∙ (start .pre .0 .room);
+        kept = (after-hear .hear .ensures .1 .1 .0);
+        written = refl;
+        answers = omega (arith, k, start .pre .0 .answers);
+      },
       (
-        record {
-          room = after-hear .hear .kept .1 .1 .0 ∙ (start .pre .0 .room);
-          kept = (after-hear .hear .ensures .1 .1);
-          written = refl;
-          answers = omega (arith, k, start .pre .0 .answers);
-        },
         omega (
           arith,
-          after-hear .hear .ensures .1 .2,
+          after-hear .hear .ensures .1 .1 .1,
           after-count .count .ensures .0 .0,
           after-count .count .ensures .0 .1,
           after-read .read .kept .1 .0,
         ),
+        record {
+          text = take (after-count .count .result) (after-read .read .last .1 .0);
+          few = simp length-take (omega (arith, after-count .count .ensures .0 .0, after-count .count .ensures .0 .1, after-read .read .kept .1 .0));
+          desk = told .state;
+          told = rw (start .pre .0 .written) at (told .text);
+        },
       ),
-      record {
-        text = take (after-count .count .result) (after-read .read .last .1 .0);
-        few = simp length-take (omega (arith, after-count .count .ensures .0 .0, after-count .count .ensures .0 .1, after-read .read .kept .1 .0));
-        desk = told .state;
-        told = rw (start .pre .0 .written) at (told .text);
-      },
     )
 
 pub turn-spec : {M : Type 1} → statement M
