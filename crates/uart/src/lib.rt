@@ -6,6 +6,7 @@ ghost use Rattle.uart.specs.Steps.{stepNo, stepOf, expects};
 ghost use Rattle.uart.specs.Conversation.{uartRoom};
 use board::Board;
 use board::LessOne;
+use board::Sector;
 
 // The steps of the UART conversation, idle first.
 pub enum Step {
@@ -46,9 +47,9 @@ pub const LEAST_COUNTED: usize = 1 + 1;
 pub const MOST_COUNTED: usize = LessOne::LARGEST + 1;
 
 // What X two-byte numbers and their checksum take, for the least X and for the largest.
-pub const LEAST_NUMBERED: usize = 2 + 1;
+pub const LEAST_NUMBERED: usize = Sector::NUMBER_BYTES + 1;
 
-pub const MOST_NUMBERED: usize = 2 * Board::SECTORS + 1;
+pub const MOST_NUMBERED: usize = Sector::NUMBER_BYTES * Board::SECTORS + 1;
 
 // What a count of two bytes and its checksum take.
 pub const CHECKED_COUNT: usize = 3;
