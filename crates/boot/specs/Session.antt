@@ -18,10 +18,6 @@ use Rattle.boot.specs.declared.Session.{Session}
 abbrev pub on : Carrier → Session → Bool
 on c s = eqb (s .carrier) (carrierNo c)
 
--- the speed at power on
-abbrev pub freshSpeed : ℕ
-freshSpeed = 2
-
 -- ---- sound sessions
 
 -- unsound exactly when carrier or speed exceeds 3, the step is not one of the carrier's, expected is not allowed for the step, or taken is not below expected
@@ -31,67 +27,76 @@ sound s =
     && stepSound (s .carrier) (s .step) (s .expected)
     && ltb (s .taken) (s .expected)
 
--- ---- the sessions that follow
+-- ---- the parts of a session
 
--- an entered step has taken 0, and its staged bytes are 0
-abbrev pub entered : Carrier → ℕ → ℕ → ℕ → ℕ → Session
-entered c step e a v = record {
-  carrier = carrierNo c;
+-- the session of a carrier's number, a step's number, a progress and a speed
+abbrev pub sessionOf : ℕ → ℕ → Progress → ℕ → Session
+sessionOf c step p v = record {
+  carrier = c;
   step = step;
-  taken = 0;
-  expected = e;
-  address = a;
+  taken = p .taken;
+  expected = p .expected;
+  address = p .address;
   speed = v;
-  staged = noBytes;
+  staged = p .staged;
 }
-
--- power on: speed 2, expected 1 and every other number 0
-abbrev pub fresh : Session
-fresh = entered None 0 resting 0 freshSpeed
-
--- idle on a carrier, at a speed, with the address 0
-abbrev pub idle : Carrier → ℕ → Session
-idle c v = entered c 0 (idleExpects c) 0 v
-
--- at another speed
-abbrev pub atSpeed : ℕ → Session → Session
-atSpeed v s = record {
-  carrier = s .carrier;
-  step = s .step;
-  taken = s .taken;
-  expected = s .expected;
-  address = s .address;
-  speed = v;
-  staged = s .staged;
-}
-
--- running: the target as address, every other number as fresh
-abbrev pub running : ℕ → Session
-running a = entered Running 0 resting a freshSpeed
 
 -- how far a session has come with its step
 abbrev pub progress : Session → Progress
 progress s = progressAt (s .taken) (s .expected) (s .address) (s .staged)
 
+-- a session in a step of a carrier, with a progress; its speed stays
+abbrev pub inStep : ℕ → ℕ → Progress → Session → Session
+inStep c step p s = sessionOf c step p (s .speed)
+
+-- at another speed
+abbrev pub atSpeed : ℕ → Session → Session
+atSpeed v s = sessionOf (s .carrier) (s .step) (progress s) v
+
+-- ---- the first session, and those that follow a session
+
+-- power on: speed 2, expected 1 and every other number 0
+abbrev pub freshSpeed : ℕ
+freshSpeed = 2
+
+abbrev pub fresh : Session
+fresh = sessionOf (carrierNo None) 0 (progressAt 0 resting 0 noBytes) freshSpeed
+
+-- an entered step has taken 0, and its staged bytes are 0
+abbrev pub entered : Carrier → ℕ → ℕ → ℕ → Session → Session
+entered c step e a s = inStep (carrierNo c) step (progressAt 0 e a noBytes) s
+
+-- idle on a carrier: the speed is kept, the address is 0
+abbrev pub idle : Carrier → Session → Session
+idle c s = entered c 0 (idleExpects c) 0 s
+
+-- at rest on a carrier, with an address, and every other number as fresh; whatever else a session gains outlives this
+abbrev pub rested : Carrier → ℕ → Session → Session
+rested c a s = atSpeed freshSpeed (entered c 0 resting a s)
+
+-- reset makes the session fresh
+abbrev pub reset : Session → Session
+reset s = rested None 0 s
+
+-- running: the target as address, every other number as fresh
+abbrev pub running : ℕ → Session → Session
+running a s = rested Running a s
+
+-- so many bytes are taken, and staged so
+abbrev pub withTaken : ℕ → List ℕ → Session → Session
+withTaken n staged s = inStep (s .carrier) (s .step) (progressAt n (s .expected) (s .address) staged) s
+
 -- bytes are taken, as far as they are expected
 abbrev pub gathered : List ℕ → Session → Session
-gathered new s = record {
-  carrier = s .carrier;
-  step = s .step;
-  taken = s .taken + length (fitting (progress s) new);
-  expected = s .expected;
-  address = s .address;
-  speed = s .speed;
-  staged = stagedWith (progress s) new;
-}
+gathered new s = withTaken (s .taken + length (fitting (progress s) new)) (stagedWith (progress s) new) s
 
 -- the session after an input of a carrier, given the session with the input's bytes taken
 unfoldable pub after : Carrier → Session → Next → Session → Session
 after c held Stay s = s
-after c held Reset s = fresh
+after c held Reset s = reset s
 after c held Gather s = held
-after c held GoIdle s = idle c (s .speed)
-after c held (SetSpeed v) s = idle c v
-after c held (Enter step e) s = entered c step e (s .address) (s .speed)
-after c held (EnterAt step e a) s = entered c step e a (s .speed)
-after c held (Run a) s = running a
+after c held GoIdle s = idle c s
+after c held (SetSpeed v) s = idle c (atSpeed v s)
+after c held (Enter step e) s = entered c step e (s .address) s
+after c held (EnterAt step e a) s = entered c step e a s
+after c held (Run a) s = running a s

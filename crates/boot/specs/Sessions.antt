@@ -3,9 +3,10 @@ use mathlib.Core.Path.{_≡_}
 use mathlib.Core.List.{List, [], _∷_}
 use Prim.Native.Nat.{ℕ}
 use lib.ListN.{take, replicate}
+use Rattle.command.specs.Progress.{progressAt}
 use Rattle.command.specs.declared.Next.{Next}
 use Rattle.command.specs.declared.Next.the-variants.{Stay, Reset, Gather, GoIdle, SetSpeed, Enter, EnterAt, Run}
-use Rattle.boot.specs.Session.{fresh, gathered, after}
+use Rattle.boot.specs.Session.{sessionOf, fresh, gathered, after}
 use Rattle.carriers.specs.declared.Carrier.the-variants.{Uart, Can}
 use Rattle.boot.specs.declared.Session.{Session}
 
@@ -16,15 +17,7 @@ numbers s =
 
 -- a write on CAN at speed 1 that has taken one of its three bytes
 abbrev pub midWrite : Session
-midWrite = record {
-  carrier = 2;
-  step = 1;
-  taken = 1;
-  expected = 3;
-  address = 0x08000000;
-  speed = 1;
-  staged = 0xAA ∷ replicate 256 0;
-}
+midWrite = sessionOf 2 1 (progressAt 1 3 0x08000000 (0xAA ∷ replicate 256 0)) 1
 
 -- what a frame of three bytes makes of it
 abbrev pub follows : Next → List ℕ

@@ -3,7 +3,7 @@ ghost use mathlib.Core.List.{[], _∷_};
 ghost use Prim.Native.Nat.{_<_, _≤_};
 ghost use lib.ListN.{getD};
 ghost use Rattle.memories.specs.Effects.{stagedBytes};
-ghost use Rattle.boot.specs.Session.{on, entered, idle, atSpeed, running, sound, gathered, after};
+ghost use Rattle.boot.specs.Session.{on, entered, idle, atSpeed, rested, sound, gathered, after};
 ghost use Rattle.boot.specs.Promise.{PoweredOn};
 use crate::Session;
 use carriers::Carrier;
@@ -19,29 +19,36 @@ impl Session {
     pub fn power_on() -> Session
         ensures { λ r. ⌜ PoweredOn r ⌝ }
     {
-        Session::enter(Carrier::None, 0, RESTING, 0, FRESH_SPEED)
-    }
-
-    // A session that enters a step.
-    fn enter(carrier: Carrier, step: u8, expected: usize, address: u32, speed: u8) -> Session
-        ensures { λ r. ⌜ r ≡ entered carrier step expected address speed ⌝ }
-    {
         Session {
-            carrier: carrier.number(),
-            step: step,
+            carrier: Carrier::None.number(),
+            step: 0,
             taken: 0,
-            expected: expected,
-            address: address,
-            speed: speed,
+            expected: RESTING,
+            address: 0,
+            speed: FRESH_SPEED,
             staged: memories::none_staged(),
         }
     }
 
+    // The session in a step that it enters.
+    fn enter(mut self, carrier: Carrier, step: u8, expected: usize, address: u32) -> Session
+        ensures { λ r. ⌜ r ≡ entered carrier step expected address self ⌝ }
+    {
+        self.carrier = carrier.number();
+        self.step = step;
+        self.taken = 0;
+        self.expected = expected;
+        self.address = address;
+        let staged = memories::none_staged();
+        self.staged = staged;
+        self
+    }
+
     // The session gone idle on a carrier: its speed is kept, its address is 0.
     fn idle(self, carrier: Carrier) -> Session
-        ensures { λ r. ⌜ r ≡ idle carrier (self .speed) ⌝ }
+        ensures { λ r. ⌜ r ≡ idle carrier self ⌝ }
     {
-        Session::enter(carrier, 0, carrier.idle_expects(), 0, self.speed)
+        self.enter(carrier, 0, carrier.idle_expects(), 0)
     }
 
     // The session at another speed.
@@ -52,11 +59,12 @@ impl Session {
         self
     }
 
-    // A running session.
-    fn run(address: u32) -> Session
-        ensures { λ r. ⌜ r ≡ running address ⌝ }
+    // The session at rest on a carrier, with an address, and every other number as fresh.
+    fn rest(self, carrier: Carrier, address: u32) -> Session
+        ensures { λ r. ⌜ r ≡ rested carrier address self ⌝ }
     {
-        Session::enter(Carrier::Running, 0, RESTING, address, FRESH_SPEED)
+        self.enter(carrier, 0, RESTING, address)
+            .at_speed(FRESH_SPEED)
     }
 
     // Whether the session is on a carrier.
@@ -104,17 +112,13 @@ impl Session {
     {
         match next {
             Next::Stay => self,
-            Next::Reset => Session::power_on(),
+            Next::Reset => self.rest(Carrier::None, 0),
             Next::Gather => taken,
             Next::GoIdle => self.idle(carrier),
             Next::SetSpeed(speed) => self.at_speed(speed).idle(carrier),
-            Next::Enter(step, expected) => {
-                Session::enter(carrier, step, expected, self.address, self.speed)
-            }
-            Next::EnterAt(step, expected, address) => {
-                Session::enter(carrier, step, expected, address, self.speed)
-            }
-            Next::Run(address) => Session::run(address),
+            Next::Enter(step, expected) => self.enter(carrier, step, expected, self.address),
+            Next::EnterAt(step, expected, address) => self.enter(carrier, step, expected, address),
+            Next::Run(address) => self.rest(Carrier::Running, address),
         }
     }
 }

@@ -30,7 +30,7 @@ use Rattle.can.specs.Conversation as CC
 use Rattle.can.specs.declared.Step as CS
 use Rattle.can.specs.declared.Step.the-variants as CSV
 use Rattle.uart.specs.Conversation.{uartRoom, heard}
-use Rattle.boot.specs.Session.{on, sound, progress, gathered, after}
+use Rattle.boot.specs.Session.{on, sound, progress, withTaken, gathered, after}
 use Rattle.carriers.specs.Carriers.{stepSound}
 use Rattle.boot.specs.Causes.{causeOf}
 use Rattle.boot.specs.Decide.{connected, decideByte, decideFrame}
@@ -66,44 +66,19 @@ gathers-byte room b p m r u s h =
 -- ---- bytes gathered at once are bytes gathered one by one
 
 -- the session with bytes taken that all fit
-abbrev withTaken : List ℕ → Session → Session
-withTaken new s = record {
-  carrier = s .carrier;
-  step = s .step;
-  taken = s .taken + length new;
-  expected = s .expected;
-  address = s .address;
-  speed = s .speed;
-  staged = put (s .staged) (s .taken) new;
-}
+abbrev pub withAll : List ℕ → Session → Session
+withAll new s = withTaken (s .taken + length new) (put (s .staged) (s .taken) new) s
 
-pub all-fit : (new : List ℕ) (s : Session) → s .taken + length new ≤ s .expected → gathered new s ≡ withTaken new s
-all-fit new s h =
-    let e = take-all (s .expected - s .taken) new (omega arith) in
-    ap (λ (l : List ℕ). record {
-      carrier = s .carrier;
-      step = s .step;
-      taken = s .taken + length l;
-      expected = s .expected;
-      address = s .address;
-      speed = s .speed;
-      staged = put (s .staged) (s .taken) l;
-    }) e
+pub all-fit : (new : List ℕ) (s : Session) → s .taken + length new ≤ s .expected → gathered new s ≡ withAll new s
+all-fit new s h = ap (λ (l : List ℕ). withAll l s) (take-all (s .expected - s .taken) new (omega arith))
 
 pub gathered-more : (b : ℕ) (bs : List ℕ) (s : Session) → s .taken + 1 + length bs ≤ s .expected
     → gathered bs (gathered (b ∷ []) s) ≡ gathered (b ∷ bs) s
 gathered-more b bs s h =
     ap (λ (t : Session). gathered bs t) (all-fit (b ∷ []) s (omega arith))
-    ∙ all-fit bs (withTaken (b ∷ []) s) h
-    ∙ ap₂ (λ (n : ℕ) (l : List ℕ). record {
-      carrier = s .carrier;
-      step = s .step;
-      taken = n;
-      expected = s .expected;
-      address = s .address;
-      speed = s .speed;
-      staged = l;
-    }) (omega arith) (put-then (s .staged) (s .taken) (s .taken + 1) (b ∷ []) bs (omega arith))
+    ∙ all-fit bs (withAll (b ∷ []) s) h
+    ∙ ap₂ (λ (n : ℕ) (l : List ℕ). withTaken n l s) (omega arith)
+    (put-then (s .staged) (s .taken) (s .taken + 1) (b ∷ []) bs (omega arith))
     ∙ sym (all-fit (b ∷ bs) s (omega arith))
 
 -- and a session that expects more stays sound

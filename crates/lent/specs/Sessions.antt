@@ -9,9 +9,9 @@ use Rattle.words.specs.Bytes.{number, fourBytes}
 use Rattle.words.specs.Lists.{part}
 use Rattle.numbers.specs.Numbers.{shortBytes, longBytes, eightBytes}
 use Rattle.memories.specs.Effects.{stagedBytes}
-use Rattle.memories.specs.Effects.{noBytes}
 use Rattle.carriers.specs.Carriers.{carrierNo}
 use Rattle.carriers.specs.declared.Carrier.the-variants.{Running}
+use Rattle.boot.specs.Session.{progress, inStep, fresh}
 use Rattle.boot.specs.declared.Session.{Session}
 
 -- how many bytes a session is lent in
@@ -64,15 +64,7 @@ heldIn l = record {
 
 -- no session: its carrier exceeds 3, so it is unsound
 abbrev pub noSession : Session
-noSession = record {
-  carrier = carrierNo Running + 1;
-  step = 0;
-  taken = 0;
-  expected = 0;
-  address = 0;
-  speed = 0;
-  staged = noBytes;
-}
+noSession = inStep (carrierNo Running + 1) 0 (progress fresh) fresh
 
 -- the session that a slice holds; a slice of another length holds none
 unfoldable pub sessionIn : List ℕ → Session

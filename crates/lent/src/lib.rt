@@ -63,19 +63,13 @@ fn held_in(lent: &[u8]) -> Session
     }
 }
 
-// No session.
+// No session: fresh, but for its carrier.
 fn no_session() -> Session
     ensures { λ r. ⌜ r ≡ noSession ⌝ }
 {
-    Session {
-        carrier: NO_CARRIER,
-        step: 0,
-        taken: 0,
-        expected: 0,
-        address: 0,
-        speed: 0,
-        staged: memories::none_staged(),
-    }
+    let mut session = Session::power_on();
+    session.carrier = NO_CARRIER;
+    session
 }
 
 // The session that a slice holds.

@@ -12,7 +12,7 @@ use Rattle.words.specs.Over.{put}
 use Rattle.words.proofs.Tests.{both-left, both-right, fails-false}
 use Rattle.memories.specs.Memories.{Memories, proper}
 use Rattle.frames.specs.Frames.{largestId}
-use Rattle.boot.specs.Session.{gathered}
+use Rattle.boot.specs.Session.{withTaken, gathered}
 use Rattle.boot.specs.Calls.{State, Framed, call}
 use Rattle.boot.specs.Promise.{stateOf}
 use Rattle.boot.specs.declared.Session.{Session}
@@ -62,25 +62,9 @@ module _ (s : Session) (text : List ℕ) (end count : ℕ) (new : List ℕ) (l :
   still-short = omega (arith, l .silent .short, l .counted)
 
   -- the session that has taken them
-  pub session-brought : record {
-    carrier = s .carrier;
-    step = s .step;
-    taken = s .taken + count;
-    expected = s .expected;
-    address = s .address;
-    speed = s .speed;
-    staged = put (s .staged) (s .taken) (take count new);
-  } ≡ gathered brought s
+  pub session-brought : withTaken (s .taken + count) (put (s .staged) (s .taken) (take count new)) s ≡ gathered brought s
   session-brought =
-      ap₂ (λ (n : ℕ) (b : List ℕ). record {
-        carrier = s .carrier;
-        step = s .step;
-        taken = s .taken + n;
-        expected = s .expected;
-        address = s .address;
-        speed = s .speed;
-        staged = put (s .staged) (s .taken) b;
-      }) (l .counted) (l .bytes)
+      ap₂ (λ (n : ℕ) (b : List ℕ). withTaken (s .taken + n) (put (s .staged) (s .taken) b) s) (l .counted) (l .bytes)
       ∙ sym (all-fit brought s (omega (arith, still-short)))
 
   module _ (m : Memories) (g : HearsFrames s (proper m)) where
@@ -163,15 +147,7 @@ module _ (first s : Session) (right : Bool) (text : List ℕ) (lines i : ℕ) (p
 
   -- the session with its new bytes staged in place
   abbrev staging : List ℕ → Session
-  staging b = record {
-    carrier = s .carrier;
-    step = s .step;
-    taken = s .taken + count;
-    expected = s .expected;
-    address = s .address;
-    speed = s .speed;
-    staged = b;
-  }
+  staging b = withTaken (s .taken + count) b s
 
   pub went-on : (b : List ℕ) → b ≡ put (s .staged) (s .taken) (take count new)
       → HearsFrames (staging b) right × PassesLines first right text (staging b) (lines + 1) (i + (end + 1))

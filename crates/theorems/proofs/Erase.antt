@@ -64,11 +64,11 @@ pending-leaves d h k = by-tests (isNothing (d .change)) (refuses (d .reply)) (en
     by-tests false false false h k = absurd h
 
 -- a session that is idle, fresh or running is in no erase
-idle-out : (c : Carrier) (v : ℕ) → T (not (inErase (idle c v)))
-idle-out None v = tt
-idle-out Uart v = tt
-idle-out Can v = tt
-idle-out Running v = tt
+idle-out : (c : Carrier) (s : Session) → T (not (inErase (idle c s)))
+idle-out None s = tt
+idle-out Uart s = tt
+idle-out Can s = tt
+idle-out Running s = tt
 
 -- so a session inside an erase follows no decision that ends a command
 in-erase-pending : (c : Carrier) (g : Session) (n : Next) (s : Session) → T (inErase (after c g n s)) → T (not (ends n))
@@ -76,8 +76,8 @@ unfolding after
 in-erase-pending c g Stay s h = tt
 in-erase-pending c g Reset s h = absurd h
 in-erase-pending c g Gather s h = tt
-in-erase-pending c g GoIdle s h = absurd (T-not (inErase (idle c (s .speed))) (idle-out c (s .speed)) h)
-in-erase-pending c g (SetSpeed v) s h = absurd (T-not (inErase (idle c v)) (idle-out c v) h)
+in-erase-pending c g GoIdle s h = absurd (T-not (inErase (idle c s)) (idle-out c s) h)
+in-erase-pending c g (SetSpeed v) s h = absurd (T-not (inErase (idle c s)) (idle-out c s) h)
 in-erase-pending c g (Enter step e) s h = tt
 in-erase-pending c g (EnterAt step e a) s h = tt
 in-erase-pending c g (Run a) s h = tt

@@ -239,9 +239,9 @@ Comes s next r =
     (T (isOver next) × T (speaks r)) ⊎ (T (not (isOver next)) × (0 < bytesLeft next) × (bytesLeft next < bytesLeft s))
 
 -- a step is entered on UART
-step-comes : (s : Session) → s .taken < s .expected → (step e a v : ℕ) (r : Reply) → T (isStep (behind (stepOf (s .step))) step e)
-    → Comes s (entered Uart step e a v) r
-step-comes s l step e a v r h =
+step-comes : (s : Session) → s .taken < s .expected → (step e a : ℕ) (r : Reply) → T (isStep (behind (stepOf (s .step))) step e)
+    → Comes s (entered Uart step e a s) r
+step-comes s l step e a r h =
     let k : T (not (eqb step 0) && ltb 0 e) = both-left (not (eqb step 0) && ltb 0 e) (leb (e + behind (stepOf step)) (behind (stepOf (s .step)))) h in
     let m = leb→le (e + behind (stepOf step)) (behind (stepOf (s .step)))
     (both-right (not (eqb step 0) && ltb 0 e) (leb (e + behind (stepOf step)) (behind (stepOf (s .step)))) h) in
@@ -266,8 +266,8 @@ end-comes s held l Reset r h = inl (tt, alone (speaks r) h)
 end-comes s held l Gather r h = absurd h
 end-comes s held l GoIdle r h = inl (tt, alone (speaks r) h)
 end-comes s held l (SetSpeed v) r h = inl (tt, alone (speaks r) h)
-end-comes s held l (Enter step e) r h = step-comes s l step e (s .address) (s .speed) r h
-end-comes s held l (EnterAt step e a) r h = step-comes s l step e a (s .speed) r h
+end-comes s held l (Enter step e) r h = step-comes s l step e (s .address) r h
+end-comes s held l (EnterAt step e a) r h = step-comes s l step e a r h
 end-comes s held l (Run a) r h = inl (tt, alone (speaks r) h)
 
 -- a byte is gathered

@@ -1,4 +1,4 @@
--- Nothing is staged.
+-- Fresh, but for a carrier that is none.
 use borrow.Author.Needs.{needs}
 use Rattle.lent.proofs.no_session.Statement.{statement}
 use Rattle.lent.proofs.no_session.Tie as tie
@@ -8,4 +8,4 @@ no-session-spec =
     tie.close
     (tie.spec
     (λ c κs. search needs)
-    (λ c. rw (← c .none-staged .ensures)))
+    (λ c. rw (c .power-on .ensures .session)))
