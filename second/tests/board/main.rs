@@ -2,18 +2,13 @@
 
 mod any_input;
 mod bench;
-mod can_talk;
-mod causes;
+mod calls;
 mod crc;
-mod desk_lines;
-mod effects;
+mod desk;
 mod images;
 mod random_files;
 mod random_vectors;
 mod s_records;
 mod scripts;
-mod sessions;
-mod traps;
-mod uart_talk;
+mod talks;
 mod vectors;
-mod worked_talk;

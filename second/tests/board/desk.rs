@@ -1,0 +1,130 @@
+//! The lines of `desk`: what is no line, how long one may be, and when answers are written.
+
+use second::desk::run;
+use std::io::{self, BufRead, BufReader, Read, Write};
+use std::process::{Command, Stdio};
+
+/// The five-line example of document 01, and what it prints, whole.
+const EXAMPLE_INPUT: &str = "U 7F\nU 01 FE\nP\nC 079\nQ\n";
+const EXAMPLE_OUTPUT: &str = "> 79\n> 79 20 01 07 79\n>\n> 079:79\n? 5\n";
+
+/// Lines that are none, one behind each bar: wrong fields, digits, spaces and letters.
+const NO_LINES: &str = "||U|U |U 7|U 7f|U 7F |U  7F| U 7F|U7F|u 7F|U 7F\r|U\t7F|U 7F0|U 7F 0|U 7F,80|U 0x7F|U +7|U 7F7F|\
+    U 7G|U 7F\0|U 7F #|U\u{A0}7F|U 7F  7F|U 079|U /0|C|C |C 79|C 07|C 079 |C 0079|C  079|C 079 1|C 079 aB|C 07a|C079|c 079|\
+    C 079  01|C 079 0102|C 07G|C 079\r|C\t079|C 079 01 02 03 04 05 06 07 08 09| |P | P|P\r|p|PP|P 00|Q|?|>|\0";
+
+/// What desk prints for an input.
+fn desk(input: impl AsRef<[u8]>) -> String {
+    let mut output = Vec::new();
+    run(&mut input.as_ref(), &mut output).unwrap();
+    String::from_utf8(output).unwrap()
+}
+
+/// The example with and without its last LF, and no input at all.
+#[test]
+fn the_example_byte_for_byte() {
+    assert_eq!(desk(EXAMPLE_INPUT), EXAMPLE_OUTPUT);
+    assert_eq!(desk(EXAMPLE_INPUT.trim_end()), EXAMPLE_OUTPUT);
+    assert_eq!(desk(""), "");
+}
+
+/// "Another line prints `?` and its number from 1, and changes nothing."
+#[test]
+fn other_lines() {
+    for line in NO_LINES.split('|').skip(1) {
+        let printed = desk(format!("{line}\nU 7F\nU 01\n{line}\nU FE\n"));
+        assert_eq!(printed, "? 1\n> 79\n>\n? 4\n> 79 20 01 07 79\n", "{line:?}");
+    }
+    assert_eq!(desk(b"\xFF\xFE\nU 7F"), "? 1\n> 79\n");
+    assert_eq!(desk("\nP\n\nU 7F\n\n"), "? 1\n>\n? 3\n> 79\n? 5\n");
+}
+
+/// "at most 800 characters": 266 bytes make 799, and a write of 256 bytes fits; an endless line is one.
+#[test]
+fn long_lines() {
+    let longest = format!("U{}", " 00".repeat(266));
+    assert_eq!((longest.len(), desk(&longest)), (799, ">\n".to_string()));
+    assert_eq!(desk(format!("{longest} 00\nP")), "? 1\n>\n");
+    assert_eq!(desk(format!("U 7F{}\nU 7F", " ".repeat(797))), "? 1\n> 79\n");
+    let written = format!("U 7F\nU 31 CE 20 00 00 00 20 FF{} FF\n", " FF".repeat(256));
+    assert_eq!(desk(written), "> 79\n> 79 79 79\n");
+    let endless = "U 7F ".repeat(1_000_000);
+    assert_eq!(desk(format!("{endless}\nU 7F\n{endless}")), "? 1\n> 79\n? 3\n");
+}
+
+/// An input that hands out one part, or fails once, at each read.
+struct Parts(Vec<io::Result<Vec<u8>>>);
+
+impl Read for Parts {
+    /// Hands out the next part.
+    fn read(&mut self, buffer: &mut [u8]) -> io::Result<usize> {
+        if self.0.is_empty() {
+            return Ok(0);
+        }
+        let part = self.0.remove(0)?;
+        buffer[..part.len()].copy_from_slice(&part);
+        Ok(part.len())
+    }
+}
+
+/// An output that keeps each write apart.
+struct Writes(Vec<String>);
+
+impl Write for Writes {
+    /// Keeps a write.
+    fn write(&mut self, bytes: &[u8]) -> io::Result<usize> {
+        self.0.push(String::from_utf8(bytes.to_vec()).unwrap());
+        Ok(bytes.len())
+    }
+
+    /// Does nothing, since nothing is held.
+    fn flush(&mut self) -> io::Result<()> {
+        Ok(())
+    }
+}
+
+/// Chunks may end anywhere; each read is followed by at most one write, and none where no line ended.
+#[test]
+fn chunks_and_writes() {
+    for size in 1..EXAMPLE_INPUT.len() {
+        let parts = EXAMPLE_INPUT.as_bytes().chunks(size);
+        let mut output = Writes(vec![]);
+        run(&mut Parts(parts.map(|part| Ok(part.to_vec())).collect()), &mut output).unwrap();
+        assert_eq!(output.0.concat(), EXAMPLE_OUTPUT);
+    }
+    let parts = ["U 7F\nU 01 ", "FE", "\nP\nC 079\nQ\nU", " 7F"];
+    let mut output = Writes(vec![]);
+    run(&mut Parts(parts.map(|part| Ok(part.into())).into()), &mut output).unwrap();
+    let written = ["> 79\n", "> 79 20 01 07 79\n>\n> 079:79\n? 5\n", ">\n"];
+    assert_eq!(output.0, written);
+}
+
+/// An interrupted read is tried again, and a broken input ends the run with its error.
+#[test]
+fn interrupted_and_broken_input() {
+    let kinds = [io::ErrorKind::Interrupted, io::ErrorKind::BrokenPipe];
+    let mut input = Parts(kinds.map(|kind| Err(kind.into())).into());
+    let ended = run(&mut input, &mut Vec::new());
+    assert_eq!(ended.unwrap_err().kind(), io::ErrorKind::BrokenPipe);
+}
+
+/// The built program answers line by line while its input stays open.
+#[test]
+fn the_program_answers_each_line_when_its_lf_is_read() {
+    let mut command = Command::new(env!("CARGO_BIN_EXE_desk"));
+    let command = command.stdin(Stdio::piped()).stdout(Stdio::piped());
+    let mut child = command.spawn().unwrap();
+    let mut input = child.stdin.take().unwrap();
+    let mut output = BufReader::new(child.stdout.take().unwrap());
+    let lines = EXAMPLE_INPUT.split_inclusive('\n');
+    for (line, expected) in lines.zip(EXAMPLE_OUTPUT.split_inclusive('\n')) {
+        input.write_all(line.as_bytes()).unwrap();
+        let mut answer = String::new();
+        output.read_line(&mut answer).unwrap();
+        assert_eq!(answer, expected);
+    }
+    drop(input);
+    let mut rest = String::new();
+    output.read_to_string(&mut rest).unwrap();
+    assert_eq!((rest.as_str(), child.wait().unwrap().success()), ("", true));
+}
