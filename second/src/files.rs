@@ -1,102 +1,32 @@
-//! Random S-record files: whole ones and ones with damage of every kind, and what they reach.
+//! Random S-record files: right ones, made from a table of edges, of which most are spoilt, and what
+//! they reach.
 
-mod damage;
 mod draft;
-mod ends;
-mod layout;
-mod points;
-mod seen;
 mod spoil;
 
-use crate::board::FLASH;
-use crate::script::dice::Dice;
-use crate::tally::Tally;
-use draft::Draft;
-use points::points;
-use seen::Seen;
+use crate::board::{ERASED, FLASH};
+use crate::dice::Dice;
+use crate::srecord::{load, met};
+use std::collections::BTreeMap;
 use std::fmt;
 
-/// How many files must meet a point for it to be reached.
-const ENOUGH: usize = 3;
+/// The images that a file may be loaded onto: the word for one, and how many bytes it has.
+const IMAGES: [(&str, usize); 5] = [
+    ("erased", FLASH.bytes),
+    ("old", FLASH.bytes),
+    ("short", FLASH.bytes - 1),
+    ("long", FLASH.bytes + 1),
+    ("empty", 0),
+];
 
-/// Of so many images one has a wrong length.
-const WRONG_LENGTHS: usize = 40;
+/// Of so many images one may have a wrong length.
+const ANY_IMAGE: usize = 30;
 
-/// The image that a file is loaded onto.
-#[derive(Clone, Copy, Debug, PartialEq, Eq)]
-pub enum Onto {
-    /// An erased one.
-    Erased,
-    /// An old one of random bytes.
-    Old,
-    /// An old one, a byte too short.
-    Short,
-    /// An old one, a byte too long.
-    Long,
-    /// An old one of no bytes.
-    Empty,
-}
+/// How often a file is spoilt.
+const TIMES: [usize; 8] = [0, 1, 1, 1, 1, 1, 1, 2];
 
-impl Onto {
-    /// An image, seldom one of a wrong length.
-    fn dealt(dice: &mut Dice) -> Onto {
-        if dice.once_in(WRONG_LENGTHS) {
-            dice.one_of(&[Onto::Short, Onto::Long, Onto::Empty])
-        } else {
-            dice.one_of(&[Onto::Erased, Onto::Old])
-        }
-    }
-
-    /// How many bytes the image has.
-    pub fn bytes(self) -> usize {
-        match self {
-            Onto::Erased | Onto::Old => FLASH.bytes,
-            Onto::Short => FLASH.bytes - 1,
-            Onto::Long => FLASH.bytes + 1,
-            Onto::Empty => 0,
-        }
-    }
-}
-
-impl fmt::Display for Onto {
-    /// Writes the image's word.
-    fn fmt(&self, formatter: &mut fmt::Formatter) -> fmt::Result {
-        formatter.write_str(match self {
-            Onto::Erased => "erased",
-            Onto::Old => "old",
-            Onto::Short => "short",
-            Onto::Long => "long",
-            Onto::Empty => "empty",
-        })
-    }
-}
-
-/// How much is wrong with a file.
-#[derive(Clone, Copy)]
-struct Trouble {
-    damages: usize,
-    spoils: usize,
-    has_odd_ends: bool,
-}
-
-impl Trouble {
-    /// Nothing, one thing, or several.
-    fn dealt(dice: &mut Dice) -> Trouble {
-        let (damages, spoils, has_odd_ends) = match dice.below(20) {
-            0..=3 => (0, 0, false),
-            4..=10 => (1, 0, false),
-            11..=16 => (0, 1, false),
-            17 => (0, 0, true),
-            18 => (2, 1, false),
-            _ => (1, 2, true),
-        };
-        Trouble {
-            damages,
-            spoils,
-            has_odd_ends,
-        }
-    }
-}
+/// Of so many files one is no draft at all.
+const JUNK: usize = 60;
 
 /// A random file, and how it is to be loaded.
 #[derive(Clone, Debug, PartialEq, Eq)]
@@ -105,36 +35,63 @@ pub struct RandomFile {
     pub text: Vec<u8>,
     /// The shift to load it with.
     pub shift: i16,
-    /// The image to load it onto.
-    pub onto: Onto,
+    /// The word for the image to load it onto.
+    pub onto: &'static str,
+    bytes: usize,
 }
 
 impl RandomFile {
     /// The file of a seed.
     pub fn of(seed: u64) -> RandomFile {
         let mut dice = Dice::seeded(seed);
-        let onto = Onto::dealt(&mut dice);
-        let mut draft = Draft::begun(&mut dice);
-        layout::fill(&mut draft, &mut dice);
-        let trouble = Trouble::dealt(&mut dice);
-        damage::damage(&mut draft, trouble.damages, &mut dice);
-        let shift = draft.shift;
-        let mut lines = draft.lines(&mut dice);
-        spoil::spoil(&mut lines, trouble.spoils, &mut dice);
-        let text = ends::joined(&lines, trouble.has_odd_ends, &mut dice);
-        RandomFile { text, shift, onto }
+        let images = if dice.once_in(ANY_IMAGE) { 5 } else { 2 };
+        let (onto, bytes) = IMAGES[dice.below(images)];
+        let shift = draft::shift(&mut dice);
+        let mut lines = draft::lines(shift, &mut dice);
+        for _ in 0..dice.one_of(&TIMES) {
+            spoil::spoil(&mut lines, shift, &mut dice);
+        }
+        let text = if dice.once_in(JUNK) { spoil::junk(&mut dice) } else { spoil::joined(&lines, &mut dice) };
+        RandomFile { text, shift, onto, bytes }
     }
 }
 
-/// How many of the files of these seeds reach each point.
-pub fn coverage(seeds: impl Iterator<Item = u64>) -> Tally {
-    let points = points();
-    let names = points.iter().map(|(name, _)| name.clone());
-    let mut tally = Tally::of(names, ENOUGH);
-    for seed in seeds {
-        let file = RandomFile::of(seed);
-        let seen = Seen::of(&file);
-        tally.count(points.iter().map(|(_, test)| test(&seen)));
+/// How many files reached each of the things that can come of one.
+pub struct Reached(BTreeMap<String, usize>);
+
+impl Reached {
+    /// What the files of these seeds reach; something that cannot come of a file is an error.
+    pub fn by(seeds: impl Iterator<Item = u64>) -> Result<Reached, String> {
+        let images = IMAGES.iter().map(|(onto, _)| format!("onto: {onto}"));
+        let can = met::all().into_iter().chain(images);
+        let mut counts: BTreeMap<String, usize> = can.map(|name| (name, 0)).collect();
+        for seed in seeds {
+            let file = RandomFile::of(seed);
+            let answer = load(&file.text, file.shift, &mut vec![ERASED; file.bytes]);
+            let mut names = met::met(&file.text, file.shift, &answer);
+            names.insert(format!("onto: {}", file.onto));
+            for name in names {
+                let count = counts.get_mut(&name);
+                *count.ok_or(format!("seed {seed}: {name} cannot be"))? += 1;
+            }
+        }
+        Ok(Reached(counts))
     }
-    tally
+
+    /// The names of what was not reached.
+    pub fn missing(&self) -> Vec<&str> {
+        let missing = self.0.iter().filter(|(_, count)| **count == 0);
+        missing.map(|(name, _)| name.as_str()).collect()
+    }
+}
+
+impl fmt::Display for Reached {
+    /// Writes a line for each thing that can be reached, and how many were.
+    fn fmt(&self, formatter: &mut fmt::Formatter) -> fmt::Result {
+        for (name, count) in &self.0 {
+            writeln!(formatter, "{count:7} {name}")?;
+        }
+        let all = self.0.len();
+        writeln!(formatter, "{} of {all} reached", all - self.missing().len())
+    }
 }

@@ -7,6 +7,7 @@ pub mod calls;
 pub mod commands;
 pub mod crc;
 pub mod desk;
+pub mod dice;
 pub mod files;
 pub mod frame;
 pub mod line;

@@ -2,6 +2,7 @@
 
 pub mod lines;
 pub mod load;
+pub mod met;
 pub mod record;
 pub mod said;
 

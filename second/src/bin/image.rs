@@ -34,12 +34,7 @@ fn wanted(words: &[OsString]) -> Option<Wanted> {
         [file, new, shift, old] => (file, new, shift, Some(old)),
         _ => return None,
     };
-    Some(Wanted {
-        file: file.clone(),
-        new: new.clone(),
-        shift: shift.to_str()?.parse().ok()?,
-        old: old.cloned(),
-    })
+    Some(Wanted { file: file.clone(), new: new.clone(), shift: shift.to_str()?.parse().ok()?, old: old.cloned() })
 }
 
 /// The image to load into: an erased one, or the old one's bytes.
@@ -56,7 +51,7 @@ fn run(wanted: &Wanted) -> Result<Line, Line> {
     let mut image = begun(wanted.old.as_ref())?;
     let text = said::read_text(Path::new(file)).map_err(|why| (file.clone(), why))?;
     let answer = load(&text, wanted.shift, &mut image);
-    let said = said::said(&answer, &text);
+    let said = said::said(&answer);
     if answer.is_err() {
         let of_old = wanted.old.as_ref().filter(|_| image.len() != FLASH.bytes);
         return Err((of_old.unwrap_or(file).clone(), said));

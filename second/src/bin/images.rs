@@ -45,7 +45,7 @@ fn run(loading: &Loading, array: &mut [u8]) -> String {
     let said = match said::read_text(Path::new(loading.file)) {
         Ok(text) => {
             let answer = load(&text, loading.shift, &mut array[..loading.bytes]);
-            said::said(&answer, &text)
+            said::said(&answer)
         }
         Err(why) => why,
     };
@@ -56,11 +56,7 @@ fn run(loading: &Loading, array: &mut [u8]) -> String {
 fn changed(before: &[u8], array: &[u8]) -> String {
     let rows = before.chunks(ROW_BYTES).zip(array.chunks(ROW_BYTES));
     let mut text = String::new();
-    for (offset, (_, row)) in (0..)
-        .step_by(ROW_BYTES)
-        .zip(rows)
-        .filter(|(_, (old, new))| old != new)
-    {
+    for (offset, (_, row)) in (0..).step_by(ROW_BYTES).zip(rows).filter(|(_, (old, new))| old != new) {
         let fields: String = row.iter().map(|byte| format!(" {byte:02X}")).collect();
         text.push_str(&format!("{offset:04X}:{fields}\n"));
     }

@@ -1,36 +1,53 @@
 //! The program `srecords`: prints the random S-record file of a seed, and how it is to be loaded on
-//! standard error.
+//! standard error; or prints what the files of some seeds reach.
 
-use second::files::RandomFile;
+use second::files::{RandomFile, Reached};
 use std::env;
 use std::io::{self, Write};
 use std::process::ExitCode;
 
 /// How the program is run.
-const USAGE: &str = "srecords SEED";
+const USAGE: &str = "srecords SEED | srecords SEED COUNT [covered]";
 
 /// The exit status of a run with other words.
 const MISUSED: u8 = 2;
 
-/// Reads the words behind the program's name.
-fn wanted(words: &[String]) -> Option<u64> {
-    match words {
-        [seed] => seed.parse().ok(),
-        _ => None,
-    }
-}
-
-/// Prints the file of the seed, or how the program is run.
-fn main() -> ExitCode {
-    let words: Vec<String> = env::args().skip(1).collect();
-    let Some(seed) = wanted(&words) else {
-        eprintln!("{USAGE}");
-        return ExitCode::from(MISUSED);
-    };
+/// Prints the file of a seed, and on standard error its shift and image.
+fn print(seed: u64) -> ExitCode {
     let file = RandomFile::of(seed);
     eprintln!("{} {}", file.shift, file.onto);
     match io::stdout().write_all(&file.text) {
         Ok(()) => ExitCode::SUCCESS,
         Err(_) => ExitCode::FAILURE,
+    }
+}
+
+/// Prints what so many files reach; with `covered`, what is not reached is a failure.
+fn count(first: u64, count: u64, covered: bool) -> ExitCode {
+    match Reached::by(first..first.saturating_add(count)) {
+        Ok(reached) => {
+            print!("{reached}");
+            let failed = covered && !reached.missing().is_empty();
+            ExitCode::from(u8::from(failed))
+        }
+        Err(why) => {
+            eprintln!("{why}");
+            ExitCode::FAILURE
+        }
+    }
+}
+
+/// Does what the words behind the program's name say, or prints how the program is run.
+fn main() -> ExitCode {
+    let words: Vec<String> = env::args().skip(1).collect();
+    let numbers: Vec<Option<u64>> = words.iter().map(|word| word.parse().ok()).collect();
+    match (&numbers[..], words.get(2).map(String::as_str)) {
+        ([Some(seed)], _) => print(*seed),
+        ([Some(first), Some(files)], _) => count(*first, *files, false),
+        ([Some(first), Some(files), None], Some("covered")) => count(*first, *files, true),
+        _ => {
+            eprintln!("{USAGE}");
+            ExitCode::from(MISUSED)
+        }
     }
 }

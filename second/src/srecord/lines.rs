@@ -8,8 +8,7 @@ const CR: u8 = b'\r';
 
 /// The lines of a text, without their ends; a text that ends in LF has no further line.
 pub fn lines(text: &[u8]) -> impl Iterator<Item = &[u8]> {
-    text.split_inclusive(|character| *character == LF)
-        .map(without_end)
+    text.split_inclusive(|character| *character == LF).map(without_end)
 }
 
 /// A line without its end; the CR of a line that has no LF is its own.

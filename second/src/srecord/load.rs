@@ -1,28 +1,41 @@
 //! Loading a text into an image of flash.
 
 use super::lines::lines;
-use super::record::{Kind, Record};
+use super::record::{Flaw, Kind, Record};
 use crate::board::{FLASH, SECTOR_BYTES};
 
 /// The number of an accepted text.
 pub const ACCEPTED: u8 = 0;
 
-/// Why a text is refused, with the number of Wish 1's order.
+/// Why a text is refused, in Wish 1's order, with the type digit's value of the line that decides.
 #[derive(Clone, Copy, Debug, PartialEq, Eq)]
-#[repr(u8)]
 pub enum Cause {
     /// The image has not 32,768 bytes.
-    WrongImageLength = 1,
+    WrongImageLength,
     /// A line is no record, or stands after the ending record.
-    BadLine = 2,
+    BadLine(Flaw),
     /// The last byte of a line is not its checksum.
-    BadChecksum = 3,
+    BadChecksum(u8),
     /// A data byte's address lies outside flash after the shift.
-    AddressOutsideFlash = 4,
+    AddressOutsideFlash(u8),
     /// A data byte's place was loaded by an earlier line.
-    Overlap = 5,
+    Overlap(u8),
     /// No line is faulty, and none ends the file.
-    NoEndingRecord = 6,
+    NoEndingRecord,
+}
+
+impl Cause {
+    /// The cause's number in Wish 1's order.
+    pub fn number(self) -> u8 {
+        match self {
+            Cause::WrongImageLength => 1,
+            Cause::BadLine(_) => 2,
+            Cause::BadChecksum(_) => 3,
+            Cause::AddressOutsideFlash(_) => 4,
+            Cause::Overlap(_) => 5,
+            Cause::NoEndingRecord => 6,
+        }
+    }
 }
 
 /// A refused text: why, and the line that decides, from 1, or 0 where no line does.
@@ -50,7 +63,7 @@ pub type Answer = Result<Loaded, Refusal>;
 pub fn numbers(answer: &Answer) -> (u8, usize) {
     match answer {
         Ok(_) => (ACCEPTED, 0),
-        Err(refusal) => (refusal.cause as u8, refusal.line),
+        Err(refusal) => (refusal.cause.number(), refusal.line),
     }
 }
 
@@ -59,17 +72,9 @@ pub fn load(text: &[u8], shift: i16, image: &mut [u8]) -> Answer {
     if image.len() != FLASH.bytes {
         return Err(no_line(Cause::WrongImageLength));
     }
-    let mut loading = Loading {
-        shift,
-        image: image.to_vec(),
-        is_loaded: vec![false; FLASH.bytes],
-        is_ended: false,
-    };
+    let mut loading = Loading { shift, image: image.to_vec(), is_loaded: vec![false; FLASH.bytes], is_ended: false };
     for (number, line) in (1..).zip(lines(text)) {
-        loading.take(line).map_err(|cause| Refusal {
-            cause,
-            line: number,
-        })?;
+        loading.take(line).map_err(|cause| Refusal { cause, line: number })?;
     }
     if !loading.is_ended {
         return Err(no_line(Cause::NoEndingRecord));
@@ -94,10 +99,14 @@ struct Loading {
 impl Loading {
     /// Takes the next line, or tells its first fault.
     fn take(&mut self, line: &[u8]) -> Result<(), Cause> {
-        let record = Record::read(line).filter(|_| !self.is_ended);
-        let record = record.ok_or(Cause::BadLine)?;
+        let read = Record::read(line);
+        if self.is_ended {
+            let digit = read.map(|record| record.digit).ok();
+            return Err(Cause::BadLine(Flaw::After(digit)));
+        }
+        let record = read.map_err(Cause::BadLine)?;
         if !record.is_right {
-            return Err(Cause::BadChecksum);
+            return Err(Cause::BadChecksum(record.digit));
         }
         match record.kind {
             Kind::Data if !record.data.is_empty() => self.store(&record)?,
@@ -109,11 +118,11 @@ impl Loading {
 
     /// Puts the data of a record that has some into the image.
     fn store(&mut self, record: &Record) -> Result<(), Cause> {
-        let first = place(record, self.shift).ok_or(Cause::AddressOutsideFlash)?;
+        let first = place(record, self.shift).ok_or(Cause::AddressOutsideFlash(record.digit))?;
         let places = first..first + record.count();
         let is_loaded = &mut self.is_loaded[places.clone()];
         if is_loaded.contains(&true) {
-            return Err(Cause::Overlap);
+            return Err(Cause::Overlap(record.digit));
         }
         is_loaded.fill(true);
         for (byte, new) in self.image[places].iter_mut().zip(record.bytes()) {

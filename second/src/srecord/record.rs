@@ -1,13 +1,10 @@
-//! What a line is: a record, or a bad line.
+//! What a line is: a record, or a bad line and why.
 
 /// The letter that every record begins with.
 const LETTER: u8 = b'S';
 
 /// The hex digits of a byte.
-pub const PAIR: usize = 2;
-
-/// The characters before the pairs that a record's count counts: letter, type and count.
-pub const HEAD: usize = 4;
+const PAIR: usize = 2;
 
 /// The bytes of a record's checksum.
 const CHECKSUM_BYTES: usize = 1;
@@ -23,6 +20,43 @@ pub enum Kind {
     Number,
     /// S7, S8 or S9, which end the file.
     Ending,
+}
+
+/// The types of records: the digit's value, what the record is, and how many bytes its address has.
+pub const TYPES: [(u8, Kind, usize); 8] = [
+    (0, Kind::Header, 2),
+    (1, Kind::Data, 2),
+    (2, Kind::Data, 3),
+    (3, Kind::Data, 4),
+    (5, Kind::Number, 2),
+    (7, Kind::Ending, 4),
+    (8, Kind::Ending, 3),
+    (9, Kind::Ending, 2),
+];
+
+/// What makes a line bad, with the value of its type digit where it has one.
+#[derive(Clone, Copy, Debug, PartialEq, Eq)]
+pub enum Flaw {
+    /// It has no character.
+    Empty,
+    /// It does not begin with S.
+    Letter,
+    /// No type digit follows.
+    Type,
+    /// Two hex digits of a count do not follow.
+    Count(u8),
+    /// The count has no room for address and checksum.
+    Small(u8),
+    /// The count has room for data, and the type carries none.
+    Data(u8),
+    /// It has fewer pairs than the count says.
+    Cut(u8),
+    /// It has more than the count says.
+    Long(u8),
+    /// A character of the pairs is no hex digit.
+    Digit(u8),
+    /// It stands after the ending record, a record itself or not.
+    After(Option<u8>),
 }
 
 /// A line that is not bad.
@@ -41,27 +75,29 @@ pub struct Record<'t> {
 }
 
 impl<'t> Record<'t> {
-    /// Reads a line without its end; a bad line gives nothing.
-    pub fn read(line: &'t [u8]) -> Option<Record<'t>> {
-        let (&[LETTER, digit, high, low], pairs) = line.split_first_chunk::<HEAD>()? else {
-            return None;
-        };
-        let (kind, address_bytes) = kind_of(digit)?;
-        let count = byte([high, low])?;
-        let rest = address_bytes + CHECKSUM_BYTES;
-        let has_room = match kind {
-            Kind::Header | Kind::Data => usize::from(count) >= rest,
-            Kind::Number | Kind::Ending => usize::from(count) == rest,
-        };
-        if !has_room || pairs.len() != usize::from(count) * PAIR {
-            return None;
-        }
-        let sum = sum(count, pairs)?;
+    /// Reads a line without its end, or tells the first flaw that makes it bad.
+    pub fn read(line: &'t [u8]) -> Result<Record<'t>, Flaw> {
+        let (letter, rest) = line.split_first().ok_or(Flaw::Empty)?;
+        require(*letter == LETTER, Flaw::Letter)?;
+        let (digit, rest) = rest.split_first().ok_or(Flaw::Type)?;
+        let mut types = TYPES.iter();
+        let of_digit = types.find(|(value, _, _)| value + b'0' == *digit);
+        let (digit, kind, address_bytes) = *of_digit.ok_or(Flaw::Type)?;
+        let (count, pairs) = rest.split_first_chunk().ok_or(Flaw::Count(digit))?;
+        let count = byte(*count).ok_or(Flaw::Count(digit))?;
+        let least = address_bytes + CHECKSUM_BYTES;
+        let carries = matches!(kind, Kind::Header | Kind::Data);
+        require(usize::from(count) >= least, Flaw::Small(digit))?;
+        require(carries || usize::from(count) == least, Flaw::Data(digit))?;
+        let characters = usize::from(count) * PAIR;
+        require(pairs.len() >= characters, Flaw::Cut(digit))?;
+        require(pairs.len() <= characters, Flaw::Long(digit))?;
+        let sum = sum(count, pairs).ok_or(Flaw::Digit(digit))?;
         let (address, pairs) = pairs.split_at(address_bytes * PAIR);
         let (data, _) = pairs.split_at(pairs.len() - CHECKSUM_BYTES * PAIR);
-        Some(Record {
+        Ok(Record {
             kind,
-            digit: digit - b'0',
+            digit,
             address: bytes(address).fold(0, |address, byte| address << u8::BITS | u32::from(byte)),
             data,
             is_right: sum == u8::MAX,
@@ -79,27 +115,19 @@ impl<'t> Record<'t> {
     }
 }
 
-/// What a type digit stands for, and how many bytes the type's address has.
-fn kind_of(digit: u8) -> Option<(Kind, usize)> {
-    match digit {
-        b'0' => Some((Kind::Header, 2)),
-        b'1' => Some((Kind::Data, 2)),
-        b'2' => Some((Kind::Data, 3)),
-        b'3' => Some((Kind::Data, 4)),
-        b'5' => Some((Kind::Number, 2)),
-        b'7' => Some((Kind::Ending, 4)),
-        b'8' => Some((Kind::Ending, 3)),
-        b'9' => Some((Kind::Ending, 2)),
-        _ => None,
+/// Finds a flaw unless this holds.
+fn require(holds: bool, flaw: Flaw) -> Result<(), Flaw> {
+    if holds {
+        Ok(())
+    } else {
+        Err(flaw)
     }
 }
 
 /// The low byte of the sum of the count and all pairs, 0xFF where the last of them is the ones'
 /// complement of the others' sum; a pair that is no hex digits gives nothing.
 fn sum(count: u8, pairs: &[u8]) -> Option<u8> {
-    pairs.chunks_exact(PAIR).try_fold(count, |sum, pair| {
-        Some(sum.wrapping_add(byte([pair[0], pair[1]])?))
-    })
+    pairs.chunks_exact(PAIR).try_fold(count, |sum, pair| Some(sum.wrapping_add(byte([pair[0], pair[1]])?)))
 }
 
 /// The bytes of pairs that are known to be hex digits.

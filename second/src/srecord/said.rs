@@ -1,8 +1,6 @@
 //! What the programs say of a text that was loaded or refused, and of a file that was not read.
 
-use super::lines::lines;
 use super::load::{Answer, Cause, Loaded, Refusal};
-use super::record::Record;
 use crate::board::FLASH;
 use std::fs::File;
 use std::io::{self, Read};
@@ -14,15 +12,12 @@ pub const MOST_CHARACTERS: usize = 2_097_152;
 /// What is added where an S1 or S2 record lies outside flash.
 const USE_S3: &str = ": S1 and S2 records cannot reach it; link at 0x08000000 and write S3 records";
 
-/// The type digits of records whose addresses end below flash.
-const SHORT_ADDRESSES: [u8; 2] = [1, 2];
-
 /// Says what came of loading a text; what is said follows the name of the text's file, or, where
 /// the image's length is wrong, of the image's.
-pub fn said(answer: &Answer, text: &[u8]) -> String {
+pub fn said(answer: &Answer) -> String {
     match answer {
         Ok(loaded) => said_loaded(loaded),
-        Err(refusal) => said_refused(refusal, text),
+        Err(refusal) => said_refused(refusal),
     }
 }
 
@@ -40,26 +35,17 @@ fn counted(number: usize, name: &str) -> String {
 }
 
 /// Says why a text is refused.
-fn said_refused(refusal: &Refusal, text: &[u8]) -> String {
+fn said_refused(refusal: &Refusal) -> String {
     let line = refusal.line;
     match refusal.cause {
         Cause::WrongImageLength => format!(": wrong image length: {} bytes wanted", FLASH.bytes),
-        Cause::BadLine => format!(":{line}: bad line"),
-        Cause::BadChecksum => format!(":{line}: bad checksum"),
-        Cause::AddressOutsideFlash => {
-            let why = if is_short(line, text) { USE_S3 } else { "" };
-            format!(":{line}: address outside flash{why}")
-        }
-        Cause::Overlap => format!(":{line}: overlap with an earlier line"),
+        Cause::BadLine(_) => format!(":{line}: bad line"),
+        Cause::BadChecksum(_) => format!(":{line}: bad checksum"),
+        Cause::AddressOutsideFlash(1 | 2) => format!(":{line}: address outside flash{USE_S3}"),
+        Cause::AddressOutsideFlash(_) => format!(":{line}: address outside flash"),
+        Cause::Overlap(_) => format!(":{line}: overlap with an earlier line"),
         Cause::NoEndingRecord => String::from(": no ending record"),
     }
-}
-
-/// Tells whether the line of this number is an S1 or S2 record.
-fn is_short(number: usize, text: &[u8]) -> bool {
-    let line = (1..).zip(lines(text)).find(|(at, _)| *at == number);
-    let record = line.and_then(|(_, line)| Record::read(line));
-    record.is_some_and(|record| SHORT_ADDRESSES.contains(&record.digit))
 }
 
 /// Reads a text from a file, or says why that cannot be; what is said follows the file's name.
