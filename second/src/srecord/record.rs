@@ -78,7 +78,8 @@ impl<'t> Record<'t> {
     /// Reads a line without its end, or tells the first flaw that makes it bad.
     pub fn read(line: &'t [u8]) -> Result<Record<'t>, Flaw> {
         let (letter, rest) = line.split_first().ok_or(Flaw::Empty)?;
-        require(*letter == LETTER, Flaw::Letter)?;
+        let flaw_unless = |holds: bool, flaw: Flaw| holds.then_some(()).ok_or(flaw);
+        flaw_unless(*letter == LETTER, Flaw::Letter)?;
         let (digit, rest) = rest.split_first().ok_or(Flaw::Type)?;
         let mut types = TYPES.iter();
         let of_digit = types.find(|(value, _, _)| value + b'0' == *digit);
@@ -87,11 +88,11 @@ impl<'t> Record<'t> {
         let count = byte(*count).ok_or(Flaw::Count(digit))?;
         let least = address_bytes + CHECKSUM_BYTES;
         let carries = matches!(kind, Kind::Header | Kind::Data);
-        require(usize::from(count) >= least, Flaw::Small(digit))?;
-        require(carries || usize::from(count) == least, Flaw::Data(digit))?;
+        flaw_unless(usize::from(count) >= least, Flaw::Small(digit))?;
+        flaw_unless(carries || usize::from(count) == least, Flaw::Data(digit))?;
         let characters = usize::from(count) * PAIR;
-        require(pairs.len() >= characters, Flaw::Cut(digit))?;
-        require(pairs.len() <= characters, Flaw::Long(digit))?;
+        flaw_unless(pairs.len() >= characters, Flaw::Cut(digit))?;
+        flaw_unless(pairs.len() <= characters, Flaw::Long(digit))?;
         let sum = sum(count, pairs).ok_or(Flaw::Digit(digit))?;
         let (address, pairs) = pairs.split_at(address_bytes * PAIR);
         let (data, _) = pairs.split_at(pairs.len() - CHECKSUM_BYTES * PAIR);
@@ -112,15 +113,6 @@ impl<'t> Record<'t> {
     /// How many data bytes the record carries.
     pub fn count(&self) -> usize {
         self.data.len() / PAIR
-    }
-}
-
-/// Finds a flaw unless this holds.
-fn require(holds: bool, flaw: Flaw) -> Result<(), Flaw> {
-    if holds {
-        Ok(())
-    } else {
-        Err(flaw)
     }
 }
 

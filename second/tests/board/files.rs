@@ -41,20 +41,25 @@ fn loaded(text: &str, shift: i16) -> ((u8, usize), Vec<u8>) {
     (numbers(&answer), image)
 }
 
-/// Each row of the table: a file, its shift, the image's bytes, and what is said; R1 to R15.
+/// Each row of the table: a file, its shift, the image's bytes, and what is said; R1 to R15. The program
+/// says the same, on standard error and with exit status 1 where the file is refused.
 #[test]
 fn stored_files_are_told_as_the_table_says() {
+    let new = folder("stored").join("new");
     let rows = TABLE.lines().filter(|line| line.starts_with("| `"));
-    let rows: Vec<Vec<&str>> =
-        rows.map(|row| row.split('|').map(|cell| cell.trim().trim_matches('`')).collect()).collect();
-    assert!(rows.len() > 200);
-    for row in rows {
+    let cells = |row: &'static str| row.split('|').map(|cell| cell.trim().trim_matches('`')).collect::<Vec<_>>();
+    assert!(rows.clone().count() > 200);
+    for row in rows.map(cells) {
         let text = fs::read(Path::new(STORED).join(row[1])).unwrap();
         let before = vec![BEFORE; row[3].parse().unwrap()];
-        let mut image = before.clone();
-        let answer = load(&text, row[2].parse().unwrap(), &mut image);
+        let mut loaded = before.clone();
+        let answer = load(&text, row[2].parse().unwrap(), &mut loaded);
         assert_eq!(format!("{}{}", row[1], said::said(&answer)), row[4]);
-        assert!(answer.is_ok() || image == before);
+        assert!(answer.is_ok() || loaded == before);
+        let (out, error, status) = image(Path::new(STORED), &format!("{} {} {}", row[1], new.display(), row[2]));
+        let is_told = [out, error].map(|said| said.trim_end() == row[4]);
+        assert!(before.len() != IMAGE_BYTES || is_told == [answer.is_ok(), answer.is_err()]);
+        assert!(before.len() != IMAGE_BYTES || status == Some(i32::from(answer.is_err())));
     }
 }
 
@@ -163,12 +168,15 @@ fn public_examples() {
     for file in files.map(|file| file.replace(' ', "\n")) {
         let records: Vec<Record> = file.lines().map(|line| Record::read(line.as_bytes()).unwrap()).collect();
         assert!(records.iter().all(|record| record.is_right));
-        let mut next = 0;
-        for record in records.iter().filter(|record| record.kind == Kind::Data) {
-            assert_eq!(record.address, next);
-            next += record.bytes().count() as u32;
-        }
+        let data: Vec<&Record> = records.iter().filter(|record| record.kind == Kind::Data).collect();
+        assert!(data.windows(2).all(|two| two[0].address + two[0].count() as u32 == two[1].address));
         assert_eq!(loaded(&file, 0).0, (4, 2));
+        let in_flash = |of: &&Record| record(3, 4, 0x0800_0000 + of.address, &of.bytes().collect::<Vec<_>>()) + "\n";
+        let (numbers, image) = loaded(&(data.iter().map(in_flash).collect::<String>() + "S9030000FC"), 0);
+        let bytes: Vec<u8> = data.iter().flat_map(|record| record.bytes()).collect();
+        assert!(
+            numbers == (0, 0) && image.starts_with(&bytes) && image[bytes.len()..].iter().all(|byte| *byte == BEFORE)
+        );
     }
 }
 
@@ -226,16 +234,10 @@ fn images_are_written() {
     assert_eq!(fs::read(folder.join("new")).unwrap(), old);
 }
 
-/// A refused file, an old image of another length before any fault of the file, and other errors.
+/// A file that cannot be opened, read or written is told in the system's words, the old image's first.
 #[test]
 fn refusals_are_told() {
     let folder = folder("refused");
-    fs::write(folder.join("bad"), "bad").unwrap();
-    refused(&folder, "bad NEW 0", "bad:1: bad line");
-    for bytes in [0, 1, IMAGE_BYTES - 1, IMAGE_BYTES + 1, 3 * IMAGE_BYTES] {
-        fs::write(folder.join("old"), vec![0; bytes]).unwrap();
-        refused(&folder, "bad NEW 0 old", "old: wrong image length: 32768 bytes wanted");
-    }
     for (words, said) in [
         ("none NEW 0", "none: No such file or directory"),
         ("f.s37 NEW 0 none", "none: No such file or directory"),
@@ -247,11 +249,31 @@ fn refusals_are_told() {
     ] {
         refused(&folder, words, said);
     }
-    for words in
-        ["", "f.s37", "f.s37 new", "f.s37 new 32768", "f.s37 new -32769", "f.s37 new 0x10", "f.s37 new 0 old more"]
-    {
-        let (out, _, status) = image(&folder, words);
-        assert_eq!((out.as_str(), status), ("", Some(2)));
+}
+
+/// An old image of another length is refused by its own name, before any fault of the file.
+#[test]
+fn old_images_have_the_right_length() {
+    let folder = folder("old");
+    fs::write(folder.join("f.s37"), "bad").unwrap();
+    for bytes in [0, 1, IMAGE_BYTES - 1, IMAGE_BYTES + 1, 3 * IMAGE_BYTES] {
+        fs::write(folder.join("old"), vec![0; bytes]).unwrap();
+        refused(&folder, "f.s37 NEW 0 old", "old: wrong image length: 32768 bytes wanted");
+    }
+}
+
+/// Other words give exit status 2, and nothing on standard output.
+#[test]
+fn other_words_are_refused() {
+    let folder = folder("words");
+    let of_image = "|f.s37|f.s37 new|f.s37 new 32768|f.s37 new -32769|f.s37 new 0x10|f.s37 new 0 old more";
+    let of_image = of_image.split('|').map(|words| (env!("CARGO_BIN_EXE_image"), words));
+    let of_images = ["f.s37 0", "f.s37 0 32770", "f.s37 x 0"].map(|words| (env!("CARGO_BIN_EXE_images"), words));
+    let of_srecords =
+        ["", "x", "1 x", "1 2 more", "1 2 covered 3"].map(|words| (env!("CARGO_BIN_EXE_srecords"), words));
+    for (program, words) in of_image.chain(of_images).chain(of_srecords) {
+        let (out, _, status) = run(program, &folder, words);
+        assert_eq!((out.as_str(), status), ("", Some(2)), "{words}");
     }
     assert!(!folder.join("new").exists());
 }
@@ -293,9 +315,6 @@ fn images_print_what_changes() {
         let said = said.replace('@', "f.s37: 1 byte in 1 sector\n");
         assert_eq!(images(words), (said, String::new(), Some(0)));
     }
-    for words in ["f.s37 0", "f.s37 0 32770", "f.s37 x 0"] {
-        assert_eq!(images(words).2, Some(2));
-    }
 }
 
 /// A seed determines its file, which the program prints with how it is to be loaded.
@@ -320,5 +339,4 @@ fn files_reach_all_that_can_come_of_one() {
     assert_eq!(Reached::by(1..=4_000).unwrap().missing(), [""; 0]);
     assert_eq!(srecords("1 40 covered").2, Some(1));
     assert_eq!(srecords("1 40").2, Some(0));
-    assert_eq!(srecords("1 40 more").2, Some(2));
 }
