@@ -16,7 +16,7 @@ const MOST: usize = 250;
 /// The shifts at the edges; any other may come too.
 const SHIFTS: [i16; 8] = [0, 0, i16::MIN, i16::MIN, i16::MAX, i16::MAX, -1, 1];
 
-/// The addresses at edges that no shift counts for; any other may come too.
+/// The addresses at edges, whatever the shift; any other may come too.
 const ADDRESSES: [u32; 6] = [0, 0xFFFF, 0x00FF_FFFF, u32::MAX, FLASH.first - 1, FLASH.first];
 
 /// The widths of lines that fill much of flash, one byte seldom.
@@ -66,12 +66,17 @@ fn s3(place: i64, data: &[u8], shift: i16) -> Vec<u8> {
 fn other(is_wanted: fn(Kind) -> bool, dice: &mut Dice) -> Vec<u8> {
     let types: Vec<_> = TYPES.iter().filter(|(_, kind, _)| is_wanted(*kind)).collect();
     let (digit, kind, address_bytes) = *dice.one_of(&types);
+    let count = if kind == Kind::Header { count(dice) } else { 0 };
+    let data = data(count, dice);
+    anywhere(digit, address_bytes, &data, dice)
+}
+
+/// The line of a record at an edge of the addresses, or at any address.
+fn anywhere(digit: u8, address_bytes: usize, data: &[u8], dice: &mut Dice) -> Vec<u8> {
     let any = dice.number() as u32;
     let edge = dice.one_of(&ADDRESSES);
-    let address = dice.one_of(&[any, edge]);
-    let address = &address.to_be_bytes()[4 - address_bytes..];
-    let count = if kind == Kind::Header { count(dice) } else { 0 };
-    line(digit, &[address, &data(count, dice)].concat())
+    let address = dice.one_of(&[any, edge]).to_be_bytes();
+    line(digit, &[&address[4 - address_bytes..], data].concat())
 }
 
 /// A line that is right by itself, wherever it lies: at an edge of flash or anywhere, of any type.
@@ -80,10 +85,9 @@ pub fn stray(shift: i16, dice: &mut Dice) -> Vec<u8> {
     let (count, any) = (data.len() as i64, dice.below(FLASH.bytes) as i64);
     let over = END - count;
     let place = dice.one_of(&[-count, -1, -1, 0, any, over, over + 1, over + 1, END]);
-    let (digit, _, address_bytes) = dice.one_of(&TYPES[1..3]);
-    let short = [&dice.number().to_be_bytes()[..address_bytes], &data].concat();
+    let (digit, _, address_bytes) = dice.one_of(&TYPES[1..4]);
     match dice.below(9) {
-        0 => line(digit, &short),
+        0 => anywhere(digit, address_bytes, &data, dice),
         1..5 => other(|_| true, dice),
         _ => s3(place, &data, shift),
     }
@@ -109,9 +113,7 @@ pub fn lines(shift: i16, dice: &mut Dice) -> Vec<Vec<u8>> {
     lines.push(other(|kind| kind == Kind::Ending, dice));
     let case = dice.one_of(&CASES);
     let digits = lines.iter_mut().flat_map(|line| &mut line[1..]);
-    for digit in digits.filter(|_| dice.once_in(case)) {
-        digit.make_ascii_lowercase();
-    }
+    digits.filter(|_| dice.once_in(case)).for_each(u8::make_ascii_lowercase);
     lines
 }
 

@@ -54,8 +54,9 @@ pub fn spoil(lines: &mut Vec<Vec<u8>>, shift: i16, dice: &mut Dice) {
 fn further(shift: i16, dice: &mut Dice) -> Vec<u8> {
     let (digit, _, _) = dice.one_of(&TYPES);
     let bytes = dice.number().to_be_bytes();
-    match dice.below(5) {
-        0 => line(digit, &bytes[..dice.below(7)]),
+    match dice.below(30) {
+        0 => format!("S{digit}00").into_bytes(),
+        1..7 => line(digit, &bytes[..dice.below(7)]),
         _ => stray(shift, dice),
     }
 }

@@ -3,7 +3,7 @@
 use crate::bench::pairs;
 use second::files::{RandomFile, Reached};
 use second::srecord::load::numbers;
-use second::srecord::{lines, load, said, Kind, Record};
+use second::srecord::{load, said, Kind, Record};
 use std::fs;
 use std::path::{Path, PathBuf};
 use std::process::Command;
@@ -82,16 +82,6 @@ fn bytes_go_to_their_places() {
     }
 }
 
-/// R3: "a load shift .. is added to each address" without wrapping, the last address and the first.
-#[test]
-fn sums_do_not_wrap() {
-    let records = [(3, 4, u32::MAX), (3, 4, 0), (2, 3, 0x00FF_FFFF), (1, 2, 0x8000)];
-    for ((digit, address_bytes, address), shift) in pairs(records, [i16::MIN, -1, 0, 1, i16::MAX].into_iter()) {
-        let line = record(digit, address_bytes, address, &[1; 250]);
-        assert_eq!(loaded(&format!("{line}\nS9030000FC"), shift).0, (4, 1));
-    }
-}
-
 /// R2: every line that is not bad gives its data digits as part of the text, whatever its checksum.
 #[test]
 fn digits_of_the_data() {
@@ -105,20 +95,6 @@ fn digits_of_the_data() {
         let record = Record::read(line.as_bytes()).unwrap();
         assert_eq!((record.data, record.is_right), (data.as_bytes(), is_right));
         assert!(data.is_empty() || record.data.as_ptr() == line[8..].as_ptr());
-    }
-}
-
-/// R9: a line ends in LF or CR LF, the last one optionally; every other CR is the line's own.
-#[test]
-fn ends_of_lines() {
-    for (text, expected) in [
-        ("", &[][..]),
-        ("\n", &[""]),
-        ("a\r\nb\nc", &["a", "b", "c"]),
-        ("a\r\r\nb\r", &["a\r", "b\r"]),
-        ("a\rb\n\r", &["a\rb", "\r"]),
-    ] {
-        assert!(lines(text.as_bytes()).eq(expected.iter().map(|line| line.as_bytes())), "{text:?}");
     }
 }
 
