@@ -56,10 +56,12 @@ fn stored_files_are_told_as_the_table_says() {
         let answer = load(&text, row[2].parse().unwrap(), &mut loaded);
         assert_eq!(format!("{}{}", row[1], said::said(&answer)), row[4]);
         assert!(answer.is_ok() || loaded == before);
+        let there = fs::read(&new).ok();
         let (out, error, status) = image(Path::new(STORED), &format!("{} {} {}", row[1], new.display(), row[2]));
         let is_told = [out, error].map(|said| said.trim_end() == row[4]);
         assert!(before.len() != IMAGE_BYTES || is_told == [answer.is_ok(), answer.is_err()]);
         assert!(before.len() != IMAGE_BYTES || status == Some(i32::from(answer.is_err())));
+        assert!(status == Some(0) || fs::read(&new).ok() == there);
     }
 }
 
