@@ -28,8 +28,8 @@ const SPOILS: [Spoil; 14] = [
     |line, dice| line.push(dice.one_of(STRANGE)),
     |line, _| line.extend_from_slice(b"00"),
     |line, _| line.make_ascii_lowercase(),
-    wrong_checksum,
-    wrong_checksum,
+    |line, dice| wrong_checksum(line, dice),
+    |line, dice| wrong_checksum(line, dice),
 ];
 
 /// Spoils the lines once: one more, one spoilt, one twice, elsewhere or empty, or fewer.
@@ -72,7 +72,7 @@ fn insert(line: &mut Vec<u8>, character: u8, dice: &mut Dice) {
 }
 
 /// Changes a bit of the last digit, by which a right checksum becomes a wrong one.
-fn wrong_checksum(line: &mut Vec<u8>, dice: &mut Dice) {
+fn wrong_checksum(line: &mut [u8], dice: &mut Dice) {
     let last = line.len() - 1;
     let digits = b"0123456789ABCDEF";
     let value = digits.iter().position(|digit| *digit == line[last]).unwrap_or_default();
