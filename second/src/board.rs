@@ -35,22 +35,30 @@ pub const SECTORS: usize = 32;
 pub const SECTOR_BYTES: usize = 1_024;
 
 /// The flash, 32 sectors of 1,024 bytes.
-pub const FLASH: Region = Region {
-    first: 0x0800_0000,
-    bytes: SECTORS * SECTOR_BYTES,
-};
+pub const FLASH: Region = Region { first: 0x0800_0000, bytes: SECTORS * SECTOR_BYTES };
 
 /// The SRAM.
-pub const SRAM: Region = Region {
-    first: 0x2000_0000,
-    bytes: 8_192,
-};
+pub const SRAM: Region = Region { first: 0x2000_0000, bytes: 8_192 };
 
 /// The user system data.
-pub const USD: Region = Region {
-    first: 0x1FFF_F800,
-    bytes: 64,
-};
+pub const USD: Region = Region { first: 0x1FFF_F800, bytes: 64 };
+
+/// The three memories by name.
+#[derive(Clone, Copy, Debug, PartialEq, Eq, PartialOrd, Ord)]
+pub enum Memory {
+    /// The flash.
+    Flash,
+    /// The SRAM.
+    Sram,
+    /// The user system data.
+    Usd,
+}
+
+/// The memory in which all `count` bytes from an address on lie, and their offset in it.
+pub fn memory_of(address: u32, count: usize) -> Option<(Memory, usize)> {
+    let in_region = |memory, region: Region| Some((memory, region.offset_of(address, count)?));
+    in_region(Memory::Flash, FLASH).or_else(|| in_region(Memory::Sram, SRAM)).or_else(|| in_region(Memory::Usd, USD))
+}
 
 /// The value of an erased flash byte.
 pub const ERASED: u8 = 0xFF;

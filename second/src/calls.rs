@@ -1,6 +1,7 @@
 //! The calls and the five causes for which they are refused.
 
 use crate::can;
+use crate::ends::Effect;
 use crate::frame::{Frame, FRAME_BYTES};
 use crate::memories::Memories;
 use crate::refused::Refused;
@@ -18,7 +19,7 @@ pub const UART_REPLY_BYTES: usize = 257;
 pub const CAN_REPLY_BYTES: usize = 33 * FRAME_BYTES;
 
 /// Why a call is refused, in the order in which the causes are tested.
-#[derive(Clone, Copy, Debug, PartialEq, Eq)]
+#[derive(Clone, Copy, Debug, PartialEq, Eq, PartialOrd, Ord)]
 #[repr(u8)]
 pub enum Cause {
     /// Flash, SRAM or USD has a wrong length.
@@ -38,18 +39,8 @@ pub enum Cause {
 pub struct Taken {
     /// The reply length in bytes.
     pub length: usize,
-    /// The rule that refused the command, if one did; the reply then ends with NACK.
-    pub refused: Option<Refused>,
-}
-
-impl Taken {
-    /// What the reply holds after an input that ended like this.
-    fn of(reply: Reply, ended: Result<(), Refused>) -> Taken {
-        Taken {
-            length: reply.length(),
-            refused: ended.err(),
-        }
-    }
+    /// What was done, or the rule that refused it; the reply then ends with NACK.
+    pub ended: Result<Effect, Refused>,
 }
 
 /// What a call hands back: its number, the reply length and the next session.
@@ -67,85 +58,53 @@ impl Outcome {
     /// The outcome of an in-place call that left this session.
     fn of(called: Result<Taken, Cause>, session: Session) -> Outcome {
         match called {
-            Ok(taken) => Outcome {
-                number: ACCEPTED,
-                length: taken.length,
-                session,
-            },
-            Err(cause) => Outcome {
-                number: cause as u8,
-                length: 0,
-                session,
-            },
+            Ok(taken) => Outcome { number: ACCEPTED, length: taken.length, session },
+            Err(cause) => Outcome { number: cause as u8, length: 0, session },
         }
     }
 }
 
 /// Takes one UART byte.
-pub fn take_uart_byte(
-    mut session: Session,
-    byte: u8,
-    memories: &mut Memories,
-    reply: &mut [u8],
-) -> Outcome {
+pub fn take_uart_byte(mut session: Session, byte: u8, memories: &mut Memories, reply: &mut [u8]) -> Outcome {
     let called = uart_byte_in_place(&mut session, byte, memories, reply);
     Outcome::of(called, session)
 }
 
 /// Takes one CAN frame.
-pub fn take_can_frame(
-    mut session: Session,
-    frame: &[u8],
-    memories: &mut Memories,
-    reply: &mut [u8],
-) -> Outcome {
+pub fn take_can_frame(mut session: Session, frame: &[u8], memories: &mut Memories, reply: &mut [u8]) -> Outcome {
     let called = can_frame_in_place(&mut session, frame, memories, reply);
     Outcome::of(called, session)
 }
 
 /// Takes one UART byte, changing the session in place, and tells what was answered.
-pub fn uart_byte_in_place(
-    session: &mut Session,
-    byte: u8,
-    memories: &mut Memories,
-    reply: &mut [u8],
-) -> Result<Taken, Cause> {
+pub fn uart_byte_in_place(session: &mut Session, byte: u8, memories: &mut Memories, reply: &mut [u8]) -> Result<Taken, Cause> {
     test_buffers(memories, reply, UART_REPLY_BYTES)?;
     let step = session.sound_step().ok_or(Cause::UnsoundSession)?;
     let mut reply = Reply::in_buffer(reply);
     let ended = match step {
         Step::Running => return Err(Cause::Running),
-        Step::None => {
-            uart::connect(session, byte, &mut reply);
-            Ok(())
-        }
+        Step::None => Ok(uart::connect(session, byte, &mut reply)),
         Step::Uart(step) => uart::take_byte(step, session, byte, memories, &mut reply),
-        Step::Can(_) => Ok(()),
+        Step::Can(_) => Ok(Effect::Unheard),
     };
-    Ok(Taken::of(reply, ended))
+    let length = reply.length();
+    Ok(Taken { length, ended })
 }
 
 /// Takes one CAN frame, changing the session in place, and tells what was answered.
-pub fn can_frame_in_place(
-    session: &mut Session,
-    frame: &[u8],
-    memories: &mut Memories,
-    reply: &mut [u8],
-) -> Result<Taken, Cause> {
+pub fn can_frame_in_place(session: &mut Session, frame: &[u8], memories: &mut Memories, reply: &mut [u8]) -> Result<Taken, Cause> {
     test_buffers(memories, reply, CAN_REPLY_BYTES)?;
     let frame = Frame::read(frame).ok_or(Cause::BadFrame)?;
     let step = session.sound_step().ok_or(Cause::UnsoundSession)?;
     let mut reply = Reply::in_buffer(reply);
     let ended = match step {
         Step::Running => return Err(Cause::Running),
-        Step::None => {
-            can::connect(session, &frame, &mut reply);
-            Ok(())
-        }
+        Step::None => Ok(can::connect(session, &frame, &mut reply)),
         Step::Can(step) => can::take_frame(step, session, &frame, memories, &mut reply),
-        Step::Uart(_) => Ok(()),
+        Step::Uart(_) => Ok(Effect::Unheard),
     };
-    Ok(Taken::of(reply, ended))
+    let length = reply.length();
+    Ok(Taken { length, ended })
 }
 
 /// Tests the lengths of the memories and then of the reply buffer.

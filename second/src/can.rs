@@ -1,11 +1,11 @@
 //! The CAN conversation: a command frame, and for three commands the frames gathered after it.
 
 use crate::commands::{
-    count_sent_as_one_less, is_protected, EraseSelector, ACCESS_PROTECT, ACCESS_UNPROTECT,
-    CAN_LIST, DEVICE_ID, ERASE, FIRMWARE_CRC, GET_COMMANDS, GET_DEVICE_ID, GET_VERSION, JUMP,
-    PROTECT, READ_MEMORY, RESET_DEVICE, SPEED, UNPROTECT, VERSION, WRITE_MEMORY,
+    count_sent_as_one_less, is_protected, EraseSelector, ACCESS_PROTECT, ACCESS_UNPROTECT, CAN_LIST, DEVICE_ID, ERASE, FIRMWARE_CRC,
+    GET_COMMANDS, GET_DEVICE_ID, GET_VERSION, JUMP, PROTECT, READ_MEMORY, RESET_DEVICE, SPEED, UNPROTECT, VERSION, WRITE_MEMORY,
 };
-use crate::effects;
+use crate::effects::{self, Done};
+use crate::ends::Effect;
 use crate::frame::{frame_bytes, Frame, FRAME_DATA_BYTES};
 use crate::memories::Memories;
 use crate::refused::{require, Refused};
@@ -36,15 +36,13 @@ impl Frames<'_, '_> {
 }
 
 /// Takes one frame while no carrier is connected.
-pub fn connect(session: &mut Session, frame: &Frame, reply: &mut Reply) {
-    if frame.id == CONNECT_ID {
-        Frames {
-            id: CONNECT_ID,
-            reply,
-        }
-        .send(&[ACK]);
-        session.connect(Step::Can(CanStep::Idle));
+pub fn connect(session: &mut Session, frame: &Frame, reply: &mut Reply) -> Effect {
+    if frame.id != CONNECT_ID {
+        return Effect::Unheard;
     }
+    reply.extend(&frame_bytes(CONNECT_ID, &[ACK]));
+    session.connect(Step::Can(CanStep::Idle));
+    Effect::Connected
 }
 
 /// Takes one frame of a connected session; a refusal ends with NACK and leaves the session idle.
@@ -54,20 +52,18 @@ pub fn take_frame(
     frame: &Frame,
     memories: &mut Memories,
     reply: &mut Reply,
-) -> Result<(), Refused> {
-    let mut frames = Frames {
-        id: running_id(step).unwrap_or(frame.id),
-        reply,
-    };
+) -> Result<Effect, Refused> {
+    let mut frames = Frames { id: running_id(step).unwrap_or(frame.id), reply };
     let taken = match step {
         CanStep::Idle => command(frame, memories, &mut frames),
         _ => gather(step, session, frame, memories, &mut frames),
     };
-    session.go(taken.unwrap_or_else(|_| {
+    let next = taken.map_or(Next::Idle, |(_, next)| next);
+    if taken.is_err() {
         frames.send(&[NACK]);
-        Next::Idle
-    }));
-    taken.map(|_| ())
+    }
+    session.go(next);
+    taken.map(|(effect, _)| effect)
 }
 
 /// The ID of the command that a gathering step stands for.
@@ -93,7 +89,7 @@ pub fn needed_dlc(command: u16) -> Option<usize> {
 }
 
 /// Takes a command frame: its ID is the command.
-fn command(frame: &Frame, memories: &mut Memories, frames: &mut Frames) -> Result<Next, Refused> {
+fn command(frame: &Frame, memories: &mut Memories, frames: &mut Frames) -> Result<Done, Refused> {
     let dlc_fits = needed_dlc(frame.id).is_none_or(|dlc| dlc == frame.dlc);
     require(dlc_fits, Refused::Dlc)?;
     let locked = is_protected(frame.id) && effects::protection_is_on(memories.usd);
@@ -110,7 +106,7 @@ fn command(frame: &Frame, memories: &mut Memories, frames: &mut Frames) -> Resul
         PROTECT => {
             let x = count_sent_as_one_less(frame.bytes[0]);
             frames.send(&[ACK]);
-            Ok(Next::Enter(Step::Can(CanStep::ProtectList), x))
+            Ok(enter_list(CanStep::ProtectList, x))
         }
         FIRMWARE_CRC => firmware_crc(frame, memories, frames),
         UNPROTECT | ACCESS_PROTECT | ACCESS_UNPROTECT | RESET_DEVICE => {
@@ -122,86 +118,83 @@ fn command(frame: &Frame, memories: &mut Memories, frames: &mut Frames) -> Resul
 }
 
 /// Answers an asking command one byte a frame: ACK, its head and body, ACK.
-fn tell(head: &[u8], body: &[u8], frames: &mut Frames) -> Next {
+fn tell(head: &[u8], body: &[u8], frames: &mut Frames) -> Done {
     frames.send(&[ACK]);
     frames.send_each(head);
     frames.send_each(body);
     frames.send(&[ACK]);
-    Next::Idle
+    (Effect::Told, Next::Idle)
+}
+
+/// Enters a list's gathering step for X.
+fn enter_list(step: CanStep, x: usize) -> Done {
+    let step = Step::Can(step);
+    (Effect::Entered(step), Next::Enter(step, x))
 }
 
 /// Takes 0x03: the first byte 0 to 3 is the new speed, the second byte is free.
-fn speed(frame: &Frame, frames: &mut Frames) -> Result<Next, Refused> {
+fn speed(frame: &Frame, frames: &mut Frames) -> Result<Done, Refused> {
     let speed = frame.bytes[0];
     require(speed <= HIGHEST_SPEED, Refused::Speed)?;
     frames.send_each(&[ACK, ACK]);
-    Ok(Next::IdleAtSpeed(speed))
+    Ok((Effect::ChangedSpeed, Next::IdleAtSpeed(speed)))
 }
 
 /// Takes 0x11: ACK, then frames of eight and a last with what remains.
-fn read_memory(frame: &Frame, memories: &Memories, frames: &mut Frames) -> Result<Next, Refused> {
+fn read_memory(frame: &Frame, memories: &Memories, frames: &mut Frames) -> Result<Done, Refused> {
     let x = count_sent_as_one_less(frame.bytes[4]);
-    let data = effects::read(memories, frame.address(), x)?;
+    let (effect, data) = effects::read(memories, frame.address(), x)?;
     frames.send(&[ACK]);
     for part in data.chunks(FRAME_DATA_BYTES) {
         frames.send(part);
     }
-    Ok(Next::Idle)
+    Ok((effect, Next::Idle))
 }
 
 /// Takes 0x21: ACK and jump.
-fn jump(frame: &Frame, frames: &mut Frames) -> Result<Next, Refused> {
+fn jump(frame: &Frame, frames: &mut Frames) -> Result<Done, Refused> {
     let running = effects::jump(frame.address())?;
     frames.send(&[ACK]);
     Ok(running)
 }
 
 /// Takes 0x31: range, USD rule and sector protection are tested with the command frame.
-fn write_memory(frame: &Frame, memories: &Memories, frames: &mut Frames) -> Result<Next, Refused> {
+fn write_memory(frame: &Frame, memories: &Memories, frames: &mut Frames) -> Result<Done, Refused> {
     let x = count_sent_as_one_less(frame.bytes[4]);
     effects::writable(memories, frame.address(), x)?;
     frames.send(&[ACK]);
-    Ok(Next::EnterAt(
-        Step::Can(CanStep::WriteData),
-        x,
-        frame.address(),
-    ))
+    let step = Step::Can(CanStep::WriteData);
+    Ok((Effect::Entered(step), Next::EnterAt(step, x, frame.address())))
 }
 
 /// Takes 0x44: a list is gathered, a special erase is ACK and then ACK or NACK.
-fn erase(frame: &Frame, memories: &mut Memories, frames: &mut Frames) -> Result<Next, Refused> {
+fn erase(frame: &Frame, memories: &mut Memories, frames: &mut Frames) -> Result<Done, Refused> {
     match EraseSelector::from_bytes(frame.bytes[0], frame.bytes[1]) {
         EraseSelector::List(x) => {
             frames.send(&[ACK]);
-            Ok(Next::Enter(Step::Can(CanStep::EraseList), x))
+            Ok(enter_list(CanStep::EraseList, x))
         }
         EraseSelector::Special(selector) => {
             frames.send(&[ACK]);
-            let next = effects::erase_special(memories, selector)?;
+            let done = effects::erase_special(memories, selector)?;
             frames.send(&[ACK]);
-            Ok(next)
+            Ok(done)
         }
         EraseSelector::Other => Err(Refused::Selector),
     }
 }
 
 /// Takes 0xAC: ACK, one frame of four.
-fn firmware_crc(frame: &Frame, memories: &Memories, frames: &mut Frames) -> Result<Next, Refused> {
+fn firmware_crc(frame: &Frame, memories: &Memories, frames: &mut Frames) -> Result<Done, Refused> {
     let sectors = count_sent_as_one_less(u16::from_be_bytes([frame.bytes[4], frame.bytes[5]]));
-    let crc = effects::firmware_crc(memories, frame.address(), sectors)?;
+    let (effect, crc) = effects::firmware_crc(memories, frame.address(), sectors)?;
     frames.send(&[ACK]);
     frames.send(&crc.to_be_bytes());
-    Ok(Next::Idle)
+    Ok((effect, Next::Idle))
 }
 
 /// Gathers a frame of the running command: extra bytes are dropped by a write, refused by a list.
-fn gather(
-    step: CanStep,
-    session: &mut Session,
-    frame: &Frame,
-    memories: &mut Memories,
-    frames: &mut Frames,
-) -> Result<Next, Refused> {
+fn gather(step: CanStep, session: &mut Session, frame: &Frame, memories: &mut Memories, frames: &mut Frames) -> Result<Done, Refused> {
     require(frame.id == frames.id, Refused::OtherId)?;
     require(frame.dlc > 0, Refused::DlcZero)?;
     let room = session.expected - session.taken;
@@ -211,19 +204,16 @@ fn gather(
         session.stage(*byte);
     }
     if !session.has_all() {
-        return Ok(Next::Same);
+        return Ok((Effect::Waits, Next::Same));
     }
-    let next = end_gathering(step, session, memories)?;
+    let (effect, next) = end_gathering(step, session, memories)?;
     frames.send(&[ACK]);
-    Ok(next)
+    let padded = frame.dlc > room;
+    Ok((if padded { Effect::WrotePadded } else { effect }, next))
 }
 
 /// Ends a command that has gathered all it expects; idle gathers nothing.
-fn end_gathering(
-    step: CanStep,
-    session: &Session,
-    memories: &mut Memories,
-) -> Result<Next, Refused> {
+fn end_gathering(step: CanStep, session: &Session, memories: &mut Memories) -> Result<Done, Refused> {
     let bytes = &session.staged[..session.expected];
     match step {
         CanStep::Idle => Err(Refused::Unknown),

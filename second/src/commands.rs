@@ -49,24 +49,15 @@ pub const CAN_LIST: [u8; 15] = [
 pub const VERSION: [u8; 3] = [PROTOCOL_VERSION, BID[0], BID[1]];
 
 /// What Get Device ID sends between its ACKs: its length less one, product and project ID.
-pub const DEVICE_ID: [u8; 6] = [
-    0x04,
-    (PRODUCT_ID >> 8) as u8,
-    PRODUCT_ID as u8,
-    (PRODUCT_ID >> 24) as u8,
-    (PRODUCT_ID >> 16) as u8,
-    PROJECT_ID,
-];
+pub const DEVICE_ID: [u8; 6] =
+    [0x04, (PRODUCT_ID >> 8) as u8, PRODUCT_ID as u8, (PRODUCT_ID >> 24) as u8, (PRODUCT_ID >> 16) as u8, PROJECT_ID];
 
 /// The commands that only ask.
 pub const ASKING: [u16; 3] = [GET_COMMANDS, GET_VERSION, GET_DEVICE_ID];
 
 /// Tells whether a command is NACKed at once while protection is on.
 pub fn is_protected(command: u16) -> bool {
-    matches!(
-        command,
-        READ_MEMORY | JUMP | WRITE_MEMORY | ERASE | PROTECT | UNPROTECT | ACCESS_PROTECT
-    )
+    matches!(command, READ_MEMORY | JUMP | WRITE_MEMORY | ERASE | PROTECT | UNPROTECT | ACCESS_PROTECT)
 }
 
 /// What the two selector bytes of an erase ask for.

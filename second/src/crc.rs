@@ -57,8 +57,7 @@ pub fn crc32_mpeg2(bytes: &[u8]) -> u32 {
 pub fn crc32_mpeg2_of_words(groups: &[[u8; 4]]) -> u32 {
     let (many, rest) = groups.as_chunks::<WORDS>();
     let register = many.iter().fold(START, after);
-    rest.iter()
-        .fold(register, |register, group| after(register, &[*group]))
+    rest.iter().fold(register, |register, group| after(register, &[*group]))
 }
 
 /// The register after up to WORDS words: each byte changes it by the row of how many come behind.

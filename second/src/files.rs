@@ -11,13 +11,8 @@ use std::collections::BTreeMap;
 use std::fmt;
 
 /// The images that a file may be loaded onto: the word for one, and how many bytes it has.
-const IMAGES: [(&str, usize); 5] = [
-    ("erased", FLASH.bytes),
-    ("old", FLASH.bytes),
-    ("short", FLASH.bytes - 1),
-    ("long", FLASH.bytes + 1),
-    ("empty", 0),
-];
+const IMAGES: [(&str, usize); 5] =
+    [("erased", FLASH.bytes), ("old", FLASH.bytes), ("short", FLASH.bytes - 1), ("long", FLASH.bytes + 1), ("empty", 0)];
 
 /// Of so many images one may have a wrong length.
 const ANY_IMAGE: usize = 30;

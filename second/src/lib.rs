@@ -8,20 +8,24 @@ pub mod commands;
 pub mod crc;
 pub mod desk;
 pub mod dice;
+pub mod ends;
 pub mod files;
 pub mod frame;
 pub mod line;
 pub mod memories;
+pub mod reached;
 pub mod refused;
 pub mod script;
 pub mod session;
 pub mod srecord;
-pub mod tally;
+pub mod vector;
 pub mod vectors;
 
 mod can;
+mod edges;
 mod effects;
 mod hex;
+mod inputs;
 mod reply;
 mod uart;
 

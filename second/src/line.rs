@@ -47,10 +47,7 @@ fn read_uart<'b>(fields: &[u8], space: &'b mut [u8; LINE_BYTES]) -> Option<Line<
 /// Reads the fields of a `C` line: an ID and up to eight bytes.
 fn read_can<'b>(fields: &[u8], space: &'b mut [u8; LINE_BYTES]) -> Option<Line<'b>> {
     let (id_field, byte_fields) = fields.split_at_checked(ID_FIELD)?;
-    let id = id_field
-        .strip_prefix(b" ")?
-        .iter()
-        .try_fold(0, |id, digit| Some(id << 4 | u16::from(hex_value(*digit)?)))?;
+    let id = id_field.strip_prefix(b" ")?.iter().try_fold(0, |id, digit| Some(id << 4 | u16::from(hex_value(*digit)?)))?;
     let bytes = read_fields(byte_fields, space)?;
     (bytes.len() <= FRAME_DATA_BYTES).then_some(Line::Can(id, bytes))
 }

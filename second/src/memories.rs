@@ -16,9 +16,7 @@ pub struct Memories<'a> {
 impl Memories<'_> {
     /// Tells whether each memory has its region's length.
     pub fn have_right_lengths(&self) -> bool {
-        self.flash.len() == FLASH.bytes
-            && self.sram.len() == SRAM.bytes
-            && self.usd.len() == USD.bytes
+        self.flash.len() == FLASH.bytes && self.sram.len() == SRAM.bytes && self.usd.len() == USD.bytes
     }
 }
 
@@ -38,19 +36,11 @@ impl Store {
     pub fn fresh() -> Store {
         let mut usd = vec![0xFF; USD.bytes];
         usd[ACCESS_BYTE] = ACCESS_OPEN;
-        Store {
-            flash: vec![ERASED; FLASH.bytes],
-            sram: vec![0; SRAM.bytes],
-            usd,
-        }
+        Store { flash: vec![ERASED; FLASH.bytes], sram: vec![0; SRAM.bytes], usd }
     }
 
     /// Lends the three memories.
     pub fn lend(&mut self) -> Memories<'_> {
-        Memories {
-            flash: &mut self.flash,
-            sram: &mut self.sram,
-            usd: &mut self.usd,
-        }
+        Memories { flash: &mut self.flash, sram: &mut self.sram, usd: &mut self.usd }
     }
 }

@@ -1,9 +1,7 @@
 //! The rules that refuse a command; the answer is NACK whichever rule it was.
 
-use std::fmt;
-
 /// The rule that refused a command.
-#[derive(Clone, Copy, Debug, PartialEq, Eq)]
+#[derive(Clone, Copy, Debug, PartialEq, Eq, PartialOrd, Ord)]
 pub enum Refused {
     /// A byte is not the complement of the one before it.
     Complement,
@@ -43,33 +41,6 @@ pub enum Refused {
     DlcZero,
     /// Extra bytes are in an index list.
     ExtraBytes,
-}
-
-impl fmt::Display for Refused {
-    /// Writes the rule in a few words.
-    fn fmt(&self, formatter: &mut fmt::Formatter) -> fmt::Result {
-        formatter.write_str(match self {
-            Refused::Complement => "wrong complement",
-            Refused::Checksum => "wrong checksum",
-            Refused::Unknown => "no such command",
-            Refused::Protected => "protection is on",
-            Refused::NoRegion => "address in no region",
-            Refused::Range => "bytes not all in one region",
-            Refused::UsdRule => "USD only in part",
-            Refused::ProtectedSector => "write-protected sector",
-            Refused::SectorNumber => "number over 31",
-            Refused::Selector => "selector from 32 to 0xFFFA",
-            Refused::SpecialErase => "special erase from 0xFFFB to 0xFFFD",
-            Refused::JumpAddress => "address not in flash or SRAM",
-            Refused::SectorStart => "address no sector start in flash",
-            Refused::SectorRange => "sectors not all inside flash",
-            Refused::Dlc => "wrong DLC",
-            Refused::Speed => "speed over 3",
-            Refused::OtherId => "frame of another ID",
-            Refused::DlcZero => "DLC 0",
-            Refused::ExtraBytes => "extra bytes",
-        })
-    }
 }
 
 /// Refuses by a rule unless it holds.

@@ -1,74 +1,283 @@
-//! Random scripts for `desk`: a host talks to a board of its own, aiming at every rule, and its
-//! lines are then run under watch to see what they reach.
+//! Random scripts for `desk`: a walk along a board of its own, whose every line fits where the board is, or nearly.
 
-pub(crate) mod asked;
-pub(crate) mod call;
-mod coverage;
-mod deck;
-pub(crate) mod dice;
-mod flaws;
-pub(crate) mod frames;
-mod gathering;
-mod goals;
-mod host;
-pub(crate) mod kind;
-mod looks;
-pub(crate) mod messages;
-mod noise;
-mod own_board;
-mod pen;
-pub(crate) mod places;
-pub(crate) mod point;
-pub(crate) mod points;
-mod states;
-mod talk;
-mod watch;
+use crate::calls::{can_frame_in_place, uart_byte_in_place, CAN_REPLY_BYTES};
+use crate::dice::Dice;
+use crate::effects::protection_is_on;
+use crate::ends::{Effect, End, Given, Kind, Met};
+use crate::frame::frame_bytes;
+use crate::hex::{print_byte, print_digit, print_fields};
+use crate::inputs::{self, Known};
+use crate::line::{Line, LINE_BYTES};
+use crate::memories::Store;
+use crate::reached::Reached;
+use crate::session::{Session, Step};
 
-pub use kind::Kind;
-pub use pen::{Answer, Written};
+// The generator of files still names it here.
+pub use crate::dice;
 
-use crate::tally::Tally;
-use coverage::Coverage;
-use deck::Deck;
-use host::Host;
+/// How many lines are tried, while there is something to reach, for the one that reaches the rarest.
+const TRIES: usize = 32;
 
-/// A script: its lines, each with what the host's own board answered.
-#[derive(Clone, Debug, PartialEq, Eq)]
-pub struct Script {
-    /// The kind of script.
-    pub kind: Kind,
-    /// The lines.
-    pub lines: Vec<Written>,
+/// Characters that lines have, and some that they have not; LF ends a line and is not among them.
+const CHARACTERS: &[u8] = b"UCP 09AF/:@G`gau\t\r\0\x0B\x0C\x1F\x7F\x80\xD5\xFF";
+
+/// A board that tells what it met.
+#[derive(Clone, Debug)]
+pub struct Board {
+    /// The session.
+    pub session: Session,
+    /// The memories.
+    pub store: Store,
+    recent: u32,
 }
 
-impl Script {
-    /// The script of a kind and a seed, with so many lines.
-    pub fn random(kind: Kind, seed: u64, count: usize) -> Script {
-        let mut host = Host::seeded(kind, seed);
-        let mut deck = Deck::shuffled(kind, &mut host);
-        while host.count() < count {
-            deck.deal(&mut host);
-        }
-        Script {
-            kind,
-            lines: host.into_lines(count),
+impl Board {
+    /// The fresh board, just powered.
+    pub fn fresh() -> Board {
+        Board { session: Session::power_on(), store: Store::fresh(), recent: 0 }
+    }
+
+    /// Takes a line as `desk` does, and tells what the board met.
+    pub fn hear(&mut self, text: &[u8]) -> Vec<Met> {
+        let mut space = [0; LINE_BYTES];
+        let address = self.session.address;
+        self.recent = if address > 0 { address } else { self.recent };
+        match Line::read(text, &mut space) {
+            Some(Line::Uart(bytes)) => bytes.iter().map(|byte| self.byte(*byte)).collect(),
+            Some(Line::Can(id, data)) => vec![self.frame(id, data)],
+            Some(Line::PowerOn) => {
+                let met = vec![self.no_call(Given::Power, Effect::PoweredOn)];
+                self.session = Session::power_on();
+                met
+            }
+            None => vec![self.no_call(Given::NoLine, Effect::Unheard)],
         }
     }
 
-    /// The lines as `desk` reads them, each ended by LF.
-    pub fn text(&self) -> Vec<u8> {
-        let mut text = Vec::new();
-        for line in &self.lines {
-            text.extend_from_slice(&line.text);
-            text.push(b'\n');
+    /// Takes a byte.
+    fn byte(&mut self, byte: u8) -> Met {
+        let before = self.session;
+        let reply = &mut [0; CAN_REPLY_BYTES];
+        let called = uart_byte_in_place(&mut self.session, byte, &mut self.store.lend(), reply);
+        Met::call(&before, Given::Byte, u16::from(byte), &called)
+    }
+
+    /// Takes a frame.
+    fn frame(&mut self, id: u16, data: &[u8]) -> Met {
+        let before = self.session;
+        let frame = frame_bytes(id, data);
+        let reply = &mut [0; CAN_REPLY_BYTES];
+        let called = can_frame_in_place(&mut self.session, &frame, &mut self.store.lend(), reply);
+        Met::call(&before, Given::Frame, id, &called)
+    }
+
+    /// What is met by what is no call.
+    fn no_call(&self, given: Given, effect: Effect) -> Met {
+        Met { given, at: self.session.sound_step(), command: None, end: End::Did(effect) }
+    }
+}
+
+/// A host, which knows what fits where a board is.
+#[derive(Clone, Debug)]
+struct Host {
+    kind: Kind,
+    dice: Dice,
+}
+
+impl Host {
+    /// Lines from where a board is to where no command is under way, or to a break on the way there.
+    fn talk(&mut self, mut board: Board) -> Talk {
+        let mut lines = Vec::new();
+        let mut met = Vec::new();
+        loop {
+            let line = self.line(&board);
+            met.extend(board.hear(&line));
+            lines.push(line);
+            if board.session.is_between_commands() || self.dice.once_in(5) {
+                return Talk { lines, met, board };
+            }
+        }
+    }
+
+    /// A line for where a board is.
+    fn line(&mut self, board: &Board) -> Vec<u8> {
+        let step = board.session.sound_step();
+        match (self.dice.below(48), step) {
+            (0, _) => b"P".to_vec(),
+            (1..5, _) => self.no_line(),
+            (5..8, Some(Step::Uart(_))) if self.kind == Kind::Mixed => self.stray(true),
+            (5..8, Some(Step::Can(_))) => self.stray(false),
+            (_, Some(Step::Uart(_) | Step::Can(_))) => self.fitting(board, step),
+            (8..30, Some(Step::Running)) => b"P".to_vec(),
+            _ => {
+                let on_can = self.kind == Kind::Mixed && self.dice.below(5) < 2;
+                self.stray(on_can)
+            }
+        }
+    }
+
+    /// A line that continues what a board is at, now and then spoilt.
+    fn fitting(&mut self, board: &Board, step: Option<Step>) -> Vec<u8> {
+        let dice = &mut self.dice;
+        let spoilt = dice.once_in(8);
+        let session = &board.session;
+        let known = Known { locked: protection_is_on(&board.store.usd), recent: board.recent };
+        match step {
+            Some(Step::Can(step)) => {
+                let (mut id, mut data) = inputs::frame(step, session, known, dice);
+                if spoilt {
+                    inputs::spoil_frame(&mut id, &mut data, dice);
+                }
+                can_line(id, &data)
+            }
+            Some(Step::Uart(step)) => {
+                let mut bytes = inputs::bytes(step, session, known, dice);
+                if spoilt {
+                    inputs::spoil_bytes(&mut bytes, dice);
+                }
+                uart_line(if bytes.is_empty() { &[0] } else { &bytes })
+            }
+            _ => self.stray(false),
+        }
+    }
+
+    /// A line on a carrier that would connect it, or nearly, wherever the board is.
+    fn stray(&mut self, on_can: bool) -> Vec<u8> {
+        let (id, data) = inputs::connect_frame(&mut self.dice);
+        if on_can {
+            can_line(id, &data)
+        } else {
+            uart_line(&[inputs::connect_byte(&mut self.dice)])
+        }
+    }
+
+    /// A line that is no line: a right one, edited until it is none.
+    fn no_line(&mut self) -> Vec<u8> {
+        let mut text = match self.dice.below(3) {
+            0 => b"P".to_vec(),
+            1 => uart_line(&self.dice.bytes(3)),
+            _ => self.stray(self.kind == Kind::Mixed),
+        };
+        while Line::read(&text, &mut [0; LINE_BYTES]).is_some() {
+            self.edit(&mut text);
         }
         text
     }
 
-    /// What the script reaches.
-    pub fn coverage(&self) -> Tally {
-        let mut coverage = Coverage::of(self.kind);
-        watch::watch(&self.text(), &mut coverage);
-        coverage.into_tally()
+    /// Removes, inserts or changes a character, or makes a line of small letters, too long or empty.
+    fn edit(&mut self, text: &mut Vec<u8>) {
+        let dice = &mut self.dice;
+        let place = dice.below(text.len() + 1);
+        let character = dice.one_of(CHARACTERS);
+        match dice.below(9) {
+            0 if place < text.len() => {
+                text.remove(place);
+            }
+            1 => text.make_ascii_lowercase(),
+            2 => text.extend(b" FF".repeat(dice.one_of(&[1, 8, 9]))),
+            6 => *text = uart_line(&vec![character; LINE_BYTES + dice.below(3)]),
+            3 => text.truncate(place),
+            4 => text.push(character),
+            5 if place < text.len() => text[place] = character,
+            _ => text.insert(place, character),
+        }
     }
+}
+
+/// Lines, what they met, and the board that they led to.
+#[derive(Clone, Debug)]
+struct Talk {
+    lines: Vec<Vec<u8>>,
+    met: Vec<Met>,
+    board: Board,
+}
+
+/// A walk along a board, and the lines that led it there.
+#[derive(Clone, Debug)]
+pub struct Walk {
+    /// The board.
+    pub board: Board,
+    host: Host,
+    reached: Reached,
+    lines: Vec<Vec<u8>>,
+    open: Vec<u8>,
+}
+
+impl Walk {
+    /// A walk that begins with the fresh board.
+    pub fn seeded(kind: Kind, seed: u64) -> Walk {
+        let dice = Dice::seeded(seed);
+        Walk { board: Board::fresh(), host: Host { kind, dice }, reached: Reached::nothing(kind), lines: Vec::new(), open: Vec::new() }
+    }
+
+    /// Goes on by the talk, of some that are tried, that meets what was met most rarely.
+    pub fn go_on(&mut self) {
+        let natural = self.reached.has_enough() || self.host.dice.once_in(4);
+        let tries = if natural { 1 } else { TRIES };
+        let tried = (0..tries).map(|_| self.host.talk(self.board.clone()));
+        if let Some(talk) = tried.min_by_key(|talk| self.reached.rarest(&talk.met)) {
+            self.reached.count(&talk.met);
+            self.board = talk.board;
+            talk.lines.into_iter().for_each(|line| self.write(line));
+        }
+    }
+
+    /// Writes a line; bytes may stay open for those of the next line, and are cut anywhere.
+    fn write(&mut self, text: Vec<u8>) {
+        let dice = &mut self.host.dice;
+        let mut space = [0; LINE_BYTES];
+        let bytes = match Line::read(&text, &mut space) {
+            Some(Line::Uart(bytes)) => Some(bytes),
+            _ => None,
+        };
+        self.open.extend(bytes.unwrap_or_default());
+        let stays = bytes.is_some() && !dice.once_in(4);
+        let may_stay = if stays { LINE_BYTES } else { 0 };
+        while self.open.len() > may_stay {
+            let most = self.open.len().min(LINE_BYTES);
+            let some = dice.between(1, most);
+            let rest = self.open.split_off(dice.one_of(&[most, most, some]));
+            let line = std::mem::replace(&mut self.open, rest);
+            self.lines.push(uart_line(&line));
+        }
+        if bytes.is_none() {
+            self.lines.push(text);
+        }
+    }
+}
+
+/// The `U` line of bytes.
+fn uart_line(bytes: &[u8]) -> Vec<u8> {
+    let mut text = b"U".to_vec();
+    print_fields(bytes, &mut text);
+    text
+}
+
+/// The `C` line of a frame.
+fn can_line(id: u16, data: &[u8]) -> Vec<u8> {
+    let mut text = b"C ".to_vec();
+    print_digit((id >> 8) as u8, &mut text);
+    print_byte(id as u8, &mut text);
+    print_fields(data, &mut text);
+    text
+}
+
+/// The lines of a random script, so many.
+pub fn random(kind: Kind, seed: u64, count: usize) -> Vec<Vec<u8>> {
+    let mut walk = Walk::seeded(kind, seed);
+    while walk.lines.len() < count {
+        walk.go_on();
+    }
+    walk.lines.truncate(count);
+    walk.lines
+}
+
+/// What the lines of a script reach, heard by a fresh board.
+pub fn reached<'l>(kind: Kind, lines: impl Iterator<Item = &'l [u8]>) -> Reached {
+    let mut board = Board::fresh();
+    let mut reached = Reached::nothing(kind);
+    for line in lines {
+        reached.count(&board.hear(line));
+    }
+    reached
 }

@@ -29,46 +29,27 @@ pub struct Expects {
 impl Expects {
     /// A step that always expects the same number.
     const fn just(number: usize) -> Expects {
-        Expects {
-            least: number,
-            greatest: number,
-            apart: 1,
-        }
+        Expects { least: number, greatest: number, apart: 1 }
     }
 
     /// A step that expects from `least` to `greatest`, in strides of `apart`.
     const fn range(least: usize, greatest: usize, apart: usize) -> Expects {
-        Expects {
-            least,
-            greatest,
-            apart,
-        }
-    }
-
-    /// The least number that the step may expect.
-    pub fn least(&self) -> usize {
-        self.least
-    }
-
-    /// The greatest number that the step may expect.
-    pub fn greatest(&self) -> usize {
-        self.greatest
-    }
-
-    /// The numbers that the step may expect.
-    pub fn numbers(&self) -> impl Iterator<Item = usize> {
-        (self.least..=self.greatest).step_by(self.apart)
-    }
-
-    /// How far apart the numbers are that the step may expect.
-    pub fn apart(&self) -> usize {
-        self.apart
+        Expects { least, greatest, apart }
     }
 
     /// Tells whether the step may expect this number.
     pub fn allows(&self, expected: usize) -> bool {
-        (self.least..=self.greatest).contains(&expected)
-            && (expected - self.least).is_multiple_of(self.apart)
+        (self.least..=self.greatest).contains(&expected) && (expected - self.least).is_multiple_of(self.apart)
+    }
+
+    /// The number that the step may expect for X, or for the X nearest to it.
+    pub(crate) fn near(&self, x: usize) -> usize {
+        self.for_count(x.min(self.count_of(self.greatest)))
+    }
+
+    /// The number that the step would expect for one X too many.
+    pub(crate) fn beyond(&self) -> usize {
+        self.greatest + self.apart
     }
 
     /// The number expected when the step is entered for X.
@@ -89,7 +70,7 @@ const ONLY_STEP: u8 = 0;
 const ONLY_EXPECTS: Expects = Expects::just(1);
 
 /// The UART steps in document 01's order; a step stands for its command too.
-#[derive(Clone, Copy, Debug, PartialEq, Eq)]
+#[derive(Clone, Copy, Debug, PartialEq, Eq, PartialOrd, Ord)]
 #[repr(u8)]
 pub enum UartStep {
     /// A command and its complement.
@@ -150,13 +131,8 @@ impl UartStep {
     pub const fn expects(self) -> Expects {
         match self {
             UartStep::Idle | UartStep::ReadLength | UartStep::EraseSelector => Expects::just(2),
-            UartStep::ReadAddress
-            | UartStep::JumpAddress
-            | UartStep::WriteAddress
-            | UartStep::CrcAddress => Expects::just(5),
-            UartStep::WriteLength | UartStep::SpecialCheck | UartStep::ProtectLength => {
-                Expects::just(1)
-            }
+            UartStep::ReadAddress | UartStep::JumpAddress | UartStep::WriteAddress | UartStep::CrcAddress => Expects::just(5),
+            UartStep::WriteLength | UartStep::SpecialCheck | UartStep::ProtectLength => Expects::just(1),
             UartStep::WriteData | UartStep::ProtectList => Expects::range(2, 257, 1),
             UartStep::EraseList => Expects::range(3, 65, 2),
             UartStep::CrcCount => Expects::just(3),
@@ -165,7 +141,7 @@ impl UartStep {
 }
 
 /// The CAN steps in document 01's order; a step stands for its command too.
-#[derive(Clone, Copy, Debug, PartialEq, Eq)]
+#[derive(Clone, Copy, Debug, PartialEq, Eq, PartialOrd, Ord)]
 #[repr(u8)]
 pub enum CanStep {
     /// A command frame.
@@ -180,12 +156,7 @@ pub enum CanStep {
 
 impl CanStep {
     /// Every CAN step, placed at its number.
-    pub const ALL: [CanStep; 4] = [
-        CanStep::Idle,
-        CanStep::WriteData,
-        CanStep::EraseList,
-        CanStep::ProtectList,
-    ];
+    pub const ALL: [CanStep; 4] = [CanStep::Idle, CanStep::WriteData, CanStep::EraseList, CanStep::ProtectList];
 
     /// The CAN step with this number, if there is one.
     pub fn numbered(number: u8) -> Option<CanStep> {
@@ -203,7 +174,7 @@ impl CanStep {
 }
 
 /// The carrier and step of a sound session.
-#[derive(Clone, Copy, Debug, PartialEq, Eq)]
+#[derive(Clone, Copy, Debug, PartialEq, Eq, PartialOrd, Ord)]
 pub enum Step {
     /// Carrier none.
     None,
@@ -297,24 +268,20 @@ pub struct Session {
 impl Session {
     /// A fresh session: speed 2, expected 1 and every other number 0.
     pub fn power_on() -> Session {
-        Session {
-            carrier: CARRIER_NONE,
-            step: ONLY_STEP,
-            taken: 0,
-            expected: 1,
-            address: 0,
-            speed: FRESH_SPEED,
-            staged: [0; STAGED_BYTES],
-        }
+        Session { carrier: CARRIER_NONE, step: ONLY_STEP, taken: 0, expected: 1, address: 0, speed: FRESH_SPEED, staged: [0; STAGED_BYTES] }
     }
 
     /// The session's step, or nothing exactly when the session is unsound.
     pub fn sound_step(&self) -> Option<Step> {
         let step = Step::named(self.carrier, self.step)?;
-        let sound = self.speed <= HIGHEST_SPEED
-            && step.expects().allows(self.expected)
-            && self.taken < self.expected;
+        let sound = self.speed <= HIGHEST_SPEED && step.expects().allows(self.expected) && self.taken < self.expected;
         sound.then_some(step)
+    }
+
+    /// Tells whether no command is under way.
+    pub fn is_between_commands(&self) -> bool {
+        let idle = Step::named(self.carrier, self.step).is_some_and(|step| step.number() == ONLY_STEP);
+        idle && self.taken == 0
     }
 
     /// Puts one byte at index taken and counts it.

@@ -1,11 +1,11 @@
 //! The UART conversation: bytes are staged until a step has all it expects, then the step ends.
 
 use crate::commands::{
-    count_sent_as_one_less, is_protected, EraseSelector, ACCESS_PROTECT, ACCESS_UNPROTECT,
-    DEVICE_ID, ERASE, FIRMWARE_CRC, GET_COMMANDS, GET_DEVICE_ID, GET_VERSION, JUMP, PROTECT,
-    READ_MEMORY, RESET_DEVICE, UART_LIST, UNPROTECT, VERSION, WRITE_MEMORY,
+    count_sent_as_one_less, is_protected, EraseSelector, ACCESS_PROTECT, ACCESS_UNPROTECT, DEVICE_ID, ERASE, FIRMWARE_CRC, GET_COMMANDS,
+    GET_DEVICE_ID, GET_VERSION, JUMP, PROTECT, READ_MEMORY, RESET_DEVICE, UART_LIST, UNPROTECT, VERSION, WRITE_MEMORY,
 };
-use crate::effects;
+use crate::effects::{self, Done};
+use crate::ends::Effect;
 use crate::memories::Memories;
 use crate::refused::{require, Refused};
 use crate::reply::{Reply, ACK, NACK};
@@ -15,40 +15,32 @@ use crate::session::{Next, Session, Step, UartStep};
 pub const CONNECT_BYTE: u8 = 0x7F;
 
 /// Takes one byte while no carrier is connected.
-pub fn connect(session: &mut Session, byte: u8, reply: &mut Reply) {
-    if byte == CONNECT_BYTE {
-        reply.push(ACK);
-        session.connect(Step::Uart(UartStep::Idle));
+pub fn connect(session: &mut Session, byte: u8, reply: &mut Reply) -> Effect {
+    if byte != CONNECT_BYTE {
+        return Effect::Unheard;
     }
+    reply.push(ACK);
+    session.connect(Step::Uart(UartStep::Idle));
+    Effect::Connected
 }
 
 /// Takes one byte of a connected session; a refusal is one NACK and leaves the session idle.
-pub fn take_byte(
-    step: UartStep,
-    session: &mut Session,
-    byte: u8,
-    memories: &mut Memories,
-    reply: &mut Reply,
-) -> Result<(), Refused> {
+pub fn take_byte(step: UartStep, session: &mut Session, byte: u8, memories: &mut Memories, reply: &mut Reply) -> Result<Effect, Refused> {
     session.stage(byte);
     if !session.has_all() {
-        return Ok(());
+        return Ok(Effect::Waits);
     }
     let ended = end_step(step, session, memories, reply);
-    session.go(ended.unwrap_or_else(|_| {
+    let next = ended.map_or(Next::Idle, |(_, next)| next);
+    if ended.is_err() {
         reply.push(NACK);
-        Next::Idle
-    }));
-    ended.map(|_| ())
+    }
+    session.go(next);
+    ended.map(|(effect, _)| effect)
 }
 
 /// Ends a step that has all it expects; it replies nothing before its last test has passed.
-fn end_step(
-    step: UartStep,
-    session: &Session,
-    memories: &mut Memories,
-    reply: &mut Reply,
-) -> Result<Next, Refused> {
+fn end_step(step: UartStep, session: &Session, memories: &mut Memories, reply: &mut Reply) -> Result<Done, Refused> {
     let bytes = &session.staged[..session.expected];
     let address = session.address;
     let x = step.expects().count_of(session.expected);
@@ -71,7 +63,7 @@ fn end_step(
 }
 
 /// Ends the idle step: a command and its complement, refused if wrong, unknown or protected.
-fn command(bytes: &[u8], memories: &mut Memories, reply: &mut Reply) -> Result<Next, Refused> {
+fn command(bytes: &[u8], memories: &mut Memories, reply: &mut Reply) -> Result<Done, Refused> {
     require(bytes[1] == !bytes[0], Refused::Complement)?;
     let command = u16::from(bytes[0]);
     let locked = is_protected(command) && effects::protection_is_on(memories.usd);
@@ -95,23 +87,35 @@ fn command(bytes: &[u8], memories: &mut Memories, reply: &mut Reply) -> Result<N
 }
 
 /// Answers an asking command: ACK, its head and body, ACK.
-fn tell(head: &[u8], body: &[u8], reply: &mut Reply) -> Next {
+fn tell(head: &[u8], body: &[u8], reply: &mut Reply) -> Done {
     reply.push(ACK);
     reply.extend(head);
     reply.extend(body);
     reply.push(ACK);
-    Next::Idle
+    (Effect::Told, Next::Idle)
 }
 
 /// Answers ACK and enters a command's first step.
-fn begin(step: UartStep, reply: &mut Reply) -> Next {
+fn begin(step: UartStep, reply: &mut Reply) -> Done {
     reply.push(ACK);
-    Next::Enter(Step::Uart(step), 1)
+    enter(step, 1)
+}
+
+/// Enters a step for X.
+fn enter(step: UartStep, x: usize) -> Done {
+    let step = Step::Uart(step);
+    (Effect::Entered(step), Next::Enter(step, x))
+}
+
+/// Enters a step with an accepted address or special selector.
+fn enter_at(step: UartStep, address: u32) -> Done {
+    let step = Step::Uart(step);
+    (Effect::Entered(step), Next::EnterAt(step, 1, address))
 }
 
 /// Enters, without an answer, a step for the X that was sent as one less.
-fn enter_list(step: UartStep, bytes: &[u8]) -> Next {
-    Next::Enter(Step::Uart(step), count_sent_as_one_less(bytes[0]))
+fn enter_list(step: UartStep, bytes: &[u8]) -> Done {
+    enter(step, count_sent_as_one_less(bytes[0]))
 }
 
 /// The XOR of all the bytes.
@@ -135,118 +139,83 @@ fn checked_items(bytes: &[u8], x: usize) -> Result<&[u8], Refused> {
 }
 
 /// Ends the address of 0x11 or 0x31, which must be in a region.
-fn region_address(bytes: &[u8], then: UartStep, reply: &mut Reply) -> Result<Next, Refused> {
+fn region_address(bytes: &[u8], then: UartStep, reply: &mut Reply) -> Result<Done, Refused> {
     let address = checked_address(bytes)?;
     effects::in_a_region(address)?;
     reply.push(ACK);
-    Ok(Next::EnterAt(Step::Uart(then), 1, address))
+    Ok(enter_at(then, address))
 }
 
 /// Ends the address of 0x21: ACK and jump.
-fn jump_address(bytes: &[u8], reply: &mut Reply) -> Result<Next, Refused> {
+fn jump_address(bytes: &[u8], reply: &mut Reply) -> Result<Done, Refused> {
     let running = effects::jump(checked_address(bytes)?)?;
     reply.push(ACK);
     Ok(running)
 }
 
 /// Ends the address of 0xAC, which must be a sector start in flash.
-fn crc_address(bytes: &[u8], reply: &mut Reply) -> Result<Next, Refused> {
+fn crc_address(bytes: &[u8], reply: &mut Reply) -> Result<Done, Refused> {
     let address = checked_address(bytes)?;
     effects::sector_start(address)?;
     reply.push(ACK);
-    Ok(Next::EnterAt(Step::Uart(UartStep::CrcCount), 1, address))
+    Ok(enter_at(UartStep::CrcCount, address))
 }
 
 /// Ends 0x11: length less one and its complement, then ACK and the data.
-fn read_length(
-    bytes: &[u8],
-    address: u32,
-    memories: &Memories,
-    reply: &mut Reply,
-) -> Result<Next, Refused> {
+fn read_length(bytes: &[u8], address: u32, memories: &Memories, reply: &mut Reply) -> Result<Done, Refused> {
     require(bytes[1] == !bytes[0], Refused::Complement)?;
-    let data = effects::read(memories, address, count_sent_as_one_less(bytes[0]))?;
+    let (effect, data) = effects::read(memories, address, count_sent_as_one_less(bytes[0]))?;
     reply.push(ACK);
     reply.extend(data);
-    Ok(Next::Idle)
+    Ok((effect, Next::Idle))
 }
 
 /// Ends 0x31: the data and the XOR of length less one and data, then one ACK.
-fn write_data(
-    bytes: &[u8],
-    x: usize,
-    address: u32,
-    memories: &mut Memories,
-    reply: &mut Reply,
-) -> Result<Next, Refused> {
-    let next = effects::write(memories, address, checked_items(bytes, x)?)?;
+fn write_data(bytes: &[u8], x: usize, address: u32, memories: &mut Memories, reply: &mut Reply) -> Result<Done, Refused> {
+    let done = effects::write(memories, address, checked_items(bytes, x)?)?;
     reply.push(ACK);
-    Ok(next)
+    Ok(done)
 }
 
 /// Ends the selector of 0x44, which is answered only if it is refused.
-fn erase_selector(bytes: &[u8]) -> Result<Next, Refused> {
+fn erase_selector(bytes: &[u8]) -> Result<Done, Refused> {
     match EraseSelector::from_bytes(bytes[0], bytes[1]) {
-        EraseSelector::List(x) => Ok(Next::Enter(Step::Uart(UartStep::EraseList), x)),
-        EraseSelector::Special(selector) => Ok(Next::EnterAt(
-            Step::Uart(UartStep::SpecialCheck),
-            1,
-            selector,
-        )),
+        EraseSelector::List(x) => Ok(enter(UartStep::EraseList, x)),
+        EraseSelector::Special(selector) => Ok(enter_at(UartStep::SpecialCheck, selector)),
         EraseSelector::Other => Err(Refused::Selector),
     }
 }
 
 /// Ends a special erase: the check is against the XOR of the address's two low bytes.
-fn special_check(
-    bytes: &[u8],
-    address: u32,
-    memories: &mut Memories,
-    reply: &mut Reply,
-) -> Result<Next, Refused> {
+fn special_check(bytes: &[u8], address: u32, memories: &mut Memories, reply: &mut Reply) -> Result<Done, Refused> {
     let [_, _, high, low] = address.to_be_bytes();
     require(bytes[0] == high ^ low, Refused::Checksum)?;
-    let next = effects::erase_special(memories, address)?;
+    let done = effects::erase_special(memories, address)?;
     reply.push(ACK);
-    Ok(next)
+    Ok(done)
 }
 
 /// Ends 0x44 with a list: X sector numbers and the XOR of selector and numbers.
-fn erase_list(
-    bytes: &[u8],
-    x: usize,
-    memories: &mut Memories,
-    reply: &mut Reply,
-) -> Result<Next, Refused> {
-    let next = effects::erase_list(memories, checked_items(bytes, x)?)?;
+fn erase_list(bytes: &[u8], x: usize, memories: &mut Memories, reply: &mut Reply) -> Result<Done, Refused> {
+    let done = effects::erase_list(memories, checked_items(bytes, x)?)?;
     reply.push(ACK);
-    Ok(next)
+    Ok(done)
 }
 
 /// Ends 0x63: X indexes and the XOR of all, then reset.
-fn protect_list(
-    bytes: &[u8],
-    x: usize,
-    memories: &mut Memories,
-    reply: &mut Reply,
-) -> Result<Next, Refused> {
-    let next = effects::protect_only(memories, checked_items(bytes, x)?)?;
+fn protect_list(bytes: &[u8], x: usize, memories: &mut Memories, reply: &mut Reply) -> Result<Done, Refused> {
+    let done = effects::protect_only(memories, checked_items(bytes, x)?)?;
     reply.push(ACK);
-    Ok(next)
+    Ok(done)
 }
 
 /// Ends 0xAC: two bytes of sectors less one and their XOR with 0xFF, then ACK and the CRC.
-fn crc_count(
-    bytes: &[u8],
-    address: u32,
-    memories: &Memories,
-    reply: &mut Reply,
-) -> Result<Next, Refused> {
+fn crc_count(bytes: &[u8], address: u32, memories: &Memories, reply: &mut Reply) -> Result<Done, Refused> {
     let check = bytes[0] ^ bytes[1] ^ 0xFF;
     require(bytes[2] == check, Refused::Checksum)?;
     let sectors = count_sent_as_one_less(u16::from_be_bytes([bytes[0], bytes[1]]));
-    let crc = effects::firmware_crc(memories, address, sectors)?;
+    let (effect, crc) = effects::firmware_crc(memories, address, sectors)?;
     reply.push(ACK);
     reply.extend(&crc.to_be_bytes());
-    Ok(Next::Idle)
+    Ok((effect, Next::Idle))
 }

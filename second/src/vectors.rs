@@ -1,37 +1,184 @@
-//! Vectors of single calls: each is one call on a session and buffers of its own.
+//! Random vectors: sessions met on a walk or made by hand, with an input that fits, of which some are spoilt.
 
-mod adler;
-mod answer;
-mod coverage;
-mod deck;
-mod draft;
-mod edges;
-mod fill;
-mod last;
-mod line;
-mod lists;
-mod makers;
-mod points;
-mod run;
-mod seen;
-mod spoil;
-mod telling;
-mod vector;
+use crate::board::{self, ERASED};
+use crate::calls::{CAN_REPLY_BYTES, UART_REPLY_BYTES};
+use crate::dice::Dice;
+use crate::edges;
+use crate::ends::Kind;
+use crate::frame::{frame_bytes, FRAME_HEAD_BYTES};
+use crate::inputs::{self, Known};
+use crate::reached::Reached;
+use crate::script::Walk;
+use crate::session::{CanStep, Session, Step, UartStep, CARRIER_CAN, CARRIER_RUNNING, HIGHEST_SPEED};
+use crate::vector::{Vector, FLASH, LONGEST_FRAME, REPLY, SRAM, STAGED_FIRST, USD};
 
-pub use adler::adler32;
-pub use answer::Answer;
-pub use coverage::coverage;
-pub use fill::Fill;
-pub use line::{MOST_FLASH, MOST_REPLY, MOST_SRAM, MOST_USD, VECTOR_CHARACTERS};
-pub use run::run;
-pub use vector::{Before, Input, Memory, Staged, Usd, Vector};
-
-use crate::script::dice::Dice;
-use deck::Deck;
+/// How many vectors are tried, while there is something to reach, for the one that reaches the rarest.
+const TRIES: usize = 32;
 
 /// The vectors of a seed, so many.
 pub fn random(seed: u64, count: usize) -> Vec<Vector> {
-    let mut dice = Dice::seeded(seed);
-    let mut deck = Deck::shuffled(&mut dice);
-    (0..count).map(|_| deck.deal(&mut dice)).collect()
+    let mut maker = Maker { dice: Dice::seeded(seed), walk: Walk::seeded(Kind::Mixed, seed) };
+    let mut reached = Reached::nothing(Kind::Calls);
+    let next = |_| {
+        let tries = if reached.has_enough() { 1 } else { TRIES };
+        let tried = (0..tries).map(|_| maker.vector()).map(|vector| (vector.met(), vector));
+        let rarest = tried.min_by_key(|(met, _)| reached.rarest(&[*met]));
+        rarest.map(|(met, vector)| {
+            reached.count(&[met]);
+            vector
+        })
+    };
+    (0..count).filter_map(next).collect()
+}
+
+/// What vectors reach.
+pub fn reached(vectors: &[Vector]) -> Reached {
+    let mut reached = Reached::nothing(Kind::Calls);
+    for vector in vectors {
+        reached.count(&[vector.met()]);
+    }
+    reached
+}
+
+/// What fits any board.
+fn known(dice: &mut Dice) -> Known {
+    Known { locked: true, recent: edges::address(dice) }
+}
+
+/// Makes vectors.
+struct Maker {
+    dice: Dice,
+    walk: Walk,
+}
+
+impl Maker {
+    /// A vector.
+    fn vector(&mut self) -> Vector {
+        let session = if self.dice.once_in(4) {
+            self.walk.go_on();
+            self.walk.board.session
+        } else {
+            self.session()
+        };
+        let mut vector = Vector::of(&session, 0);
+        self.lend_memories(&mut vector);
+        self.lend_reply(&mut vector);
+        self.input(&mut vector);
+        if self.dice.once_in(4) {
+            self.unsound(&mut vector);
+        }
+        vector
+    }
+
+    /// A sound session, such as a talk reaches or not, of which often one input is still to come.
+    fn session(&mut self) -> Session {
+        let dice = &mut self.dice;
+        let step = match dice.below(8) {
+            0 => dice.one_of(&[Step::None, Step::Running]),
+            1 => Step::Can(CanStep::Idle),
+            2 | 3 => Step::Can(dice.one_of(&CanStep::ALL)),
+            _ => Step::Uart(dice.one_of(&UartStep::ALL)),
+        };
+        let mut session = Session::power_on();
+        (session.carrier, session.step) = (step.carrier(), step.number());
+        session.address = edges::any_address(dice);
+        session.expected = step.expects().near(edges::count(session.address, dice));
+        session.speed = dice.below(usize::from(HIGHEST_SPEED) + 1) as u8;
+        let items = match step {
+            Step::Uart(step) => inputs::bytes(step, &session, known(dice), dice),
+            Step::Can(step) => inputs::frame(step, &session, known(dice), dice).1,
+            Step::None | Step::Running => vec![],
+        };
+        session.staged.iter_mut().zip(items).take(STAGED_FIRST).for_each(|(byte, item)| *byte = item);
+        let left = if session.carrier == CARRIER_CAN { dice.between(1, 9) } else { 1 };
+        let any = dice.below(session.expected);
+        session.taken = if dice.once_in(8) { any } else { session.expected.saturating_sub(left) };
+        session
+    }
+
+    /// Lends memories, fresh or used, one of them now and then of a wrong length.
+    fn lend_memories(&mut self, vector: &mut Vector) {
+        let dice = &mut self.dice;
+        let any = [dice.byte(), dice.byte()];
+        vector.put_staged_rule(dice.one_of(&[[0, 0], [0, 0], [31, 0], any]));
+        let wrong = if dice.once_in(5) { dice.below(3) } else { 3 };
+        let all_fresh = dice.once_in(3);
+        let memories = [(FLASH, board::FLASH, ERASED), (SRAM, board::SRAM, 0), (USD, board::USD, ERASED)];
+        for (index, (memory, region, fresh)) in memories.into_iter().enumerate() {
+            let wrong_length = edges::wrong_length(region.bytes, memory.1, dice);
+            let length = if index == wrong { wrong_length } else { region.bytes };
+            let any = [dice.byte(), dice.byte()];
+            vector.put_buffer(memory, length, &if all_fresh { [fresh, 0] } else { any });
+        }
+        vector.put_usd(edges::access(dice), edges::all_sector_bits(dice));
+    }
+
+    /// Lends a reply buffer, now and then too short.
+    fn lend_reply(&mut self, vector: &mut Vector) {
+        let dice = &mut self.dice;
+        let short = dice.one_of(&[0, UART_REPLY_BYTES - 1, UART_REPLY_BYTES, CAN_REPLY_BYTES - 1]);
+        let right = dice.one_of(&[UART_REPLY_BYTES, CAN_REPLY_BYTES, CAN_REPLY_BYTES, REPLY.1]);
+        let length = if dice.once_in(6) { short } else { right };
+        vector.put_buffer(REPLY, length, &[dice.byte()]);
+    }
+
+    /// Gives what fits the session, or what comes on the other carrier, now and then spoilt.
+    fn input(&mut self, vector: &mut Vector) {
+        let dice = &mut self.dice;
+        let session = vector.session();
+        let fits = !dice.once_in(6);
+        let byte = match session.sound_step() {
+            Some(Step::Uart(step)) if fits => inputs::bytes(step, &session, known(dice), dice)[0],
+            Some(Step::Can(step)) if fits => {
+                let frame = inputs::frame(step, &session, known(dice), dice);
+                return self.frame(vector, frame);
+            }
+            Some(Step::Can(_)) => inputs::connect_byte(dice),
+            Some(Step::None | Step::Running) if dice.coin() => inputs::connect_byte(dice),
+            _ => {
+                let frame = inputs::connect_frame(dice);
+                return self.frame(vector, frame);
+            }
+        };
+        vector.put_byte(if dice.once_in(6) { dice.wrong(byte) } else { byte });
+    }
+
+    /// Gives a frame, now and then spoilt, of a wrong length, or with a DLC that is none.
+    fn frame(&mut self, vector: &mut Vector, (mut id, mut data): (u16, Vec<u8>)) {
+        let dice = &mut self.dice;
+        if dice.once_in(6) {
+            inputs::spoil_frame(&mut id, &mut data, dice);
+        }
+        let mut frame = frame_bytes(id, &data).to_vec();
+        let unused = FRAME_HEAD_BYTES + data.len()..;
+        frame[unused].fill(dice.one_of(&[0, 0, 0xEE]));
+        if dice.once_in(8) {
+            let dlc = dice.between(9, 255) as u8;
+            frame[FRAME_HEAD_BYTES - 1] = dice.one_of(&[9, 15, dlc]);
+        }
+        if dice.once_in(8) {
+            frame.resize(dice.below(LONGEST_FRAME + 1), dice.byte());
+        }
+        vector.put_frame(&frame);
+    }
+
+    /// Puts one number of the session that is mostly wrong.
+    fn unsound(&mut self, vector: &mut Vector) {
+        let dice = &mut self.dice;
+        let session = vector.session();
+        let expected = session.expected as u64;
+        let beyond = session.sound_step().map_or(0, |step| step.expects().beyond()) as u64;
+        let huge = edges::huge(dice);
+        match dice.below(8) {
+            0 => vector.put_step(session.carrier, dice.one_of(&[1, 4, 14, 0xFF])),
+            1 => vector.put_step(dice.one_of(&[CARRIER_RUNNING + 1, 0x80, 0xFF]), session.step),
+            2 => vector.put_speed(dice.one_of(&[HIGHEST_SPEED + 1, 0x80, 0xFF])),
+            3 | 4 => vector.put_expected(dice.one_of(&[huge, expected + 1, expected - 1, beyond])),
+            5 => {
+                vector.put_taken(huge.saturating_sub(1));
+                vector.put_expected(huge);
+            }
+            _ => vector.put_taken(dice.one_of(&[huge, expected, expected + 1])),
+        }
+    }
 }

@@ -3,7 +3,8 @@
 
 use crate::bench::{session_bytes, Bench};
 use linked::Taken;
-use second::vectors::{coverage, random, Input, Vector};
+use second::vector::Vector;
+use second::vectors::{random, reached};
 use second::ACCEPTED;
 use std::env;
 use std::str::FromStr;
@@ -15,7 +16,7 @@ const CALLS: usize = 100_000;
 /// How many calls must have each number, of so many.
 const ENOUGH: usize = 100;
 
-/// How many of the vectors are looked at for what they reach, which takes longer than the calls.
+/// How many of the vectors are looked at for what they reach.
 const LOOKED_AT: usize = 5_000;
 
 /// The number that a variable of the environment holds, or another.
@@ -29,16 +30,16 @@ fn lent(vector: &Vector) -> Bench {
     Bench {
         session: session_bytes(&vector.session()).to_vec(),
         store: vector.store(),
-        buffer: vector.reply.fill.bytes(vector.reply.length),
+        buffer: vector.reply(),
     }
 }
 
 /// Makes a vector's call on the linked board: what it gives, and all that it leaves.
 fn linked_call(vector: &Vector) -> (Taken, Bench) {
     let mut bench = lent(vector);
-    let taken = match &vector.input {
-        Input::Byte(byte) => bench.take_byte(*byte),
-        Input::Frame(frame) => bench.take_frame(frame),
+    let taken = match vector.frame() {
+        None => bench.take_byte(vector.byte()),
+        Some(frame) => bench.take_frame(frame),
     };
     (taken, bench)
 }
@@ -75,9 +76,8 @@ fn random_calls_agree() {
     assert!(calls < CALLS || numbers.iter().all(|count| *count >= ENOUGH));
 }
 
-/// The vectors reach every point that vectors are to reach.
+/// The vectors reach all that can come of a call.
 #[test]
-fn random_calls_reach_every_point() {
-    let tally = coverage(&random(SEED, LOOKED_AT));
-    assert_eq!(tally.missing().collect::<Vec<_>>(), Vec::<&str>::new());
+fn random_calls_reach_all_that_can_come() {
+    assert_eq!(reached(&random(SEED, LOOKED_AT)).missing(), Vec::<String>::new());
 }

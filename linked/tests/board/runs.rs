@@ -1,9 +1,10 @@
 //! Runs of calls on one session's slice, which each call hands on to the next.
 
 use crate::bench::{session_bytes, Bench, UNTOUCHED};
+use second::ends::Kind;
 use second::frame::frame_bytes;
 use second::line::{Line, LINE_BYTES};
-use second::script::{Kind, Script};
+use second::script::random;
 use second::{take_can_frame, take_uart_byte, Outcome, Session, Store};
 
 /// How many scripts are run, and of how many lines.
@@ -65,9 +66,9 @@ fn whole_scripts_agree() {
             session: Session::power_on(),
             store: Store::fresh(),
         };
-        for line in Script::random(Kind::Mixed, seed, LINES).lines {
+        for line in random(Kind::Mixed, seed, LINES) {
             let mut space = [0; LINE_BYTES];
-            match Line::read(&line.text, &mut space) {
+            match Line::read(&line, &mut space) {
                 Some(Line::Uart(bytes)) => {
                     bytes
                         .iter()

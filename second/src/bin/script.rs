@@ -1,56 +1,64 @@
-//! The program `script`: prints a random script for `desk`, and what it reaches on standard error.
+//! The program `script`: prints a random script for `desk`, or counts what one on standard input reaches.
 
-use second::script::{Kind, Script};
+use second::ends::Kind;
+use second::script::{random, reached};
 use std::env;
-use std::io::{self, Write};
+use std::io::{self, Read, Write};
 use std::process::ExitCode;
 
-/// What is wanted of the program.
-struct Wanted {
-    kind: Kind,
-    seed: u64,
-    lines: usize,
-    covered: bool,
-}
-
 /// How the program is run.
-const USAGE: &str = "script uart|mixed SEED LINES [covered]";
+const USAGE: &str = "script uart|mixed SEED LINES [covered] | script uart|mixed count [covered]";
 
 /// The exit status of a run with other words.
 const MISUSED: u8 = 2;
 
-/// Reads the words behind the program's name.
-fn wanted(words: &[String]) -> Option<Wanted> {
-    let words: Vec<&str> = words.iter().map(String::as_str).collect();
-    let (kind, seed, lines, covered) = match words[..] {
-        [kind, seed, lines] => (kind, seed, lines, false),
-        [kind, seed, lines, "covered"] => (kind, seed, lines, true),
-        _ => return None,
-    };
-    Some(Wanted {
-        kind: Kind::named(kind)?,
-        seed: seed.parse().ok()?,
-        lines: lines.parse().ok()?,
-        covered,
-    })
+/// The lines of the script on standard input.
+fn given() -> io::Result<Vec<Vec<u8>>> {
+    let mut text = Vec::new();
+    io::stdin().read_to_end(&mut text)?;
+    let lines = text.strip_suffix(b"\n").unwrap_or(&text);
+    Ok(lines.split(|byte| *byte == b'\n').map(<[u8]>::to_vec).collect())
 }
 
-/// Prints the script and its coverage; with `covered`, a point not reached is a failure.
-fn print(wanted: &Wanted) -> io::Result<ExitCode> {
-    let script = Script::random(wanted.kind, wanted.seed, wanted.lines);
-    let coverage = script.coverage();
-    io::stdout().write_all(&script.text())?;
-    io::stderr().write_all(coverage.to_string().as_bytes())?;
-    let failed = wanted.covered && coverage.missing().count() > 0;
-    Ok(ExitCode::from(u8::from(failed)))
+/// The lines that the words behind the program's name ask for, and whether they are to be printed.
+fn lines(kind: Kind, words: &[&str]) -> Option<(io::Result<Vec<Vec<u8>>>, bool)> {
+    match words {
+        ["count"] => Some((given(), false)),
+        [seed, lines] => {
+            let (seed, lines) = (seed.parse().ok()?, lines.parse().ok()?);
+            Some((Ok(random(kind, seed, lines)), true))
+        }
+        _ => None,
+    }
 }
 
-/// Prints the wanted script, or how the program is run.
+/// Prints the script, and what it reaches on standard error; tells whether it reaches what it should.
+fn print(kind: Kind, lines: &[Vec<u8>], printed: bool, covered: bool) -> io::Result<bool> {
+    if printed {
+        let text: Vec<u8> = lines.iter().flat_map(|line| [line, &b"\n"[..]].concat()).collect();
+        io::stdout().write_all(&text)?;
+    }
+    let reached = reached(kind, lines.iter().map(Vec::as_slice));
+    io::stderr().write_all(reached.to_string().as_bytes())?;
+    Ok(reached.holds(covered))
+}
+
+/// Does what is wanted, or prints how the program is run.
 fn main() -> ExitCode {
     let words: Vec<String> = env::args().skip(1).collect();
-    let Some(wanted) = wanted(&words) else {
+    let mut words: Vec<&str> = words.iter().map(String::as_str).collect();
+    let covered = words.pop_if(|word| *word == "covered").is_some();
+    let wanted = match words[..] {
+        ["uart", ref words @ ..] => lines(Kind::Uart, words).map(|lines| (Kind::Uart, lines)),
+        ["mixed", ref words @ ..] => lines(Kind::Mixed, words).map(|lines| (Kind::Mixed, lines)),
+        _ => None,
+    };
+    let Some((kind, (lines, printed))) = wanted else {
         eprintln!("{USAGE}");
         return ExitCode::from(MISUSED);
     };
-    print(&wanted).unwrap_or(ExitCode::FAILURE)
+    match lines.and_then(|lines| print(kind, &lines, printed, covered)) {
+        Ok(true) => ExitCode::SUCCESS,
+        _ => ExitCode::FAILURE,
+    }
 }

@@ -91,10 +91,7 @@ pub fn with_xor(bytes: &[u8]) -> Vec<u8> {
 }
 
 /// Every first with every second.
-pub fn pairs<A: Copy, B: Copy>(
-    firsts: impl IntoIterator<Item = A>,
-    seconds: impl Iterator<Item = B> + Clone,
-) -> Vec<(A, B)> {
+pub fn pairs<A: Copy, B: Copy>(firsts: impl IntoIterator<Item = A>, seconds: impl Iterator<Item = B> + Clone) -> Vec<(A, B)> {
     let firsts = firsts.into_iter();
     firsts.flat_map(|first| seconds.clone().map(move |second| (first, second))).collect()
 }

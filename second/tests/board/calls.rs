@@ -47,11 +47,7 @@ fn called(lengths: Lengths, session: Session, byte: u8, frame: Option<&[u8]>) ->
 /// The numbers that both calls give, of two UART bytes and of the frame that connects.
 fn numbers(place: usize, length: usize, session: Session) -> [u8; 3] {
     let (uart, can) = (but(place, length, ON_UART), but(place, length, ON_CAN));
-    [
-        called(uart, session, 0x7F, None).0,
-        called(uart, session, 0x00, None).0,
-        called(can, session, 0, Some(&frame(0x79, &[]))).0,
-    ]
+    [called(uart, session, 0x7F, None).0, called(uart, session, 0x00, None).0, called(can, session, 0, Some(&frame(0x79, &[]))).0]
 }
 
 /// A running session, and an unsound one that would be running.
@@ -153,8 +149,7 @@ fn each_step_expects_what_the_rules_say() {
 #[test]
 fn taken_and_speed_have_bounds() {
     let mut store = Store::fresh();
-    let expected =
-        |(carrier, step)| allowed(carrier, step).into_iter().map(move |most| session_at(carrier, step, most));
+    let expected = |(carrier, step)| allowed(carrier, step).into_iter().map(move |most| session_at(carrier, step, most));
     for (session, past) in pairs(steps().into_iter().flat_map(expected), [0, 1, 2, usize::MAX].into_iter()) {
         let taken = (session.expected - 1).saturating_add(past);
         assert_eq!(is_sound(Session { taken, ..session }, &mut store), past == 0);
@@ -303,8 +298,7 @@ fn erase_selectors() {
 #[test]
 fn another_id_or_dlc_0_while_gathering() {
     let frames = [(0, &[][..]), (0x92, &[]), (0x79, &[]), (0x7FF, &[1]), (0x31, &[]), (0x44, &[]), (0x63, &[])];
-    for ((step, expected, id), (other, data)) in pairs([(1, 9, 0x31), (2, 10, 0x44), (3, 9, 0x63)], frames.into_iter())
-    {
+    for ((step, expected, id), (other, data)) in pairs([(1, 9, 0x31), (2, 10, 0x44), (3, 9, 0x63)], frames.into_iter()) {
         let mut bench = Bench::at(session_at(2, step, expected));
         bench.store.usd[0] = 0;
         let before = bench.store.clone();

@@ -114,9 +114,7 @@ fn counts_of_each_type() {
         assert_eq!(is_good(line), digit < 5 || data.is_empty());
         assert!(!is_good(&record(digit, address_bytes - 1, 0, &[])) && !is_good(&format!("S{digit}00")));
         assert!(!is_good(&format!("{line}0")) && !is_good(&format!("{line}00")) && !is_good(&line[..line.len() - 1]));
-        let spoilt = |mark: &str| {
-            [format!("{line}{mark}"), format!("{mark}{line}"), format!("{}{mark}{}", &line[..6], &line[7..])]
-        };
+        let spoilt = |mark: &str| [format!("{line}{mark}"), format!("{mark}{line}"), format!("{}{mark}{}", &line[..6], &line[7..])];
         assert!(![" ", "\t", "\0", ";", "#", "\r", "G", "g"].into_iter().flat_map(spoilt).any(|line| is_good(&line)));
     }
 }
@@ -152,9 +150,7 @@ fn public_examples() {
         let in_flash = |of: &&Record| record(3, 4, 0x0800_0000 + of.address, &of.bytes().collect::<Vec<_>>()) + "\n";
         let (numbers, image) = loaded(&(data.iter().map(in_flash).collect::<String>() + "S9030000FC"), 0);
         let bytes: Vec<u8> = data.iter().flat_map(|record| record.bytes()).collect();
-        assert!(
-            numbers == (0, 0) && image.starts_with(&bytes) && image[bytes.len()..].iter().all(|byte| *byte == BEFORE)
-        );
+        assert!(numbers == (0, 0) && image.starts_with(&bytes) && image[bytes.len()..].iter().all(|byte| *byte == BEFORE));
     }
 }
 
@@ -247,8 +243,7 @@ fn other_words_are_refused() {
     let of_image = "|f.s37|f.s37 new|f.s37 new 32768|f.s37 new -32769|f.s37 new 0x10|f.s37 new 0 old more";
     let of_image = of_image.split('|').map(|words| (env!("CARGO_BIN_EXE_image"), words));
     let of_images = ["f.s37 0", "f.s37 0 32770", "f.s37 x 0"].map(|words| (env!("CARGO_BIN_EXE_images"), words));
-    let of_srecords =
-        ["", "x", "1 x", "1 2 more", "1 2 covered 3"].map(|words| (env!("CARGO_BIN_EXE_srecords"), words));
+    let of_srecords = ["", "x", "1 x", "1 2 more", "1 2 covered 3"].map(|words| (env!("CARGO_BIN_EXE_srecords"), words));
     for (program, words) in of_image.chain(of_images).chain(of_srecords) {
         let (out, _, status) = run(program, &folder, words);
         assert_eq!((out.as_str(), status), ("", Some(2)), "{words}");

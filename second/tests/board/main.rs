@@ -1,6 +1,5 @@
 //! Tests of the second board; every expected value is taken from the documents or `expected/`.
 
-mod any_input;
 mod bench;
 mod calls;
 mod crc;

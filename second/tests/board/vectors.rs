@@ -1,9 +1,9 @@
 //! Vectors: their lines, the digest, and answers worked out by hand from document 01.
 
 use crate::bench::{hex, spaced};
-use second::vectors::{adler32, run, Vector};
-use std::io::Write;
-use std::process::{Command, Output, Stdio};
+use crate::scripts::program;
+use second::vector::{adler32, run, Vector};
+use std::process::Output;
 
 /// Flash of the right length, all F0.
 const FLASH: &str = "00 00 80 00 F0 00";
@@ -13,9 +13,6 @@ const SRAM: &str = "00 00 20 00 24 00";
 
 /// USD of the right length, A5 then all FF.
 const USD: &str = "00 00 00 40 FF 00 A5 FF FF FF FF";
-
-/// USD of the right length, 00 then all FF.
-const LOCKED_USD: &str = "00 00 00 40 FF 00 00 FF FF FF FF";
 
 /// The shortest reply buffer of UART, all C3.
 const UART_REPLY: &str = "00 00 01 01 C3";
@@ -92,13 +89,7 @@ fn replied(length: u64, reply: &str) -> u32 {
 
 /// The digests where staged bytes are 0, the usual memories are unchanged and this is replied.
 fn unchanged(reply_length: u64, reply: &str) -> Digests {
-    [
-        digest(0, 257, &[]),
-        digest(0xF0, 32_768, &[]),
-        digest(0x24, 8_192, &[]),
-        digest(0xFF, 64, &[(0, 0xA5)]),
-        replied(reply_length, reply),
-    ]
+    [digest(0, 257, &[]), digest(0xF0, 32_768, &[]), digest(0x24, 8_192, &[]), digest(0xFF, 64, &[(0, 0xA5)]), replied(reply_length, reply)]
 }
 
 /// The line of an answer: number, reply, the numbers of the session, and the digests.
@@ -135,25 +126,6 @@ fn a_whole_line_and_its_answer() {
     assert_eq!(answers(line), printed);
 }
 
-/// Carrier none: 0x7F and ID 0x79 connect, and nothing else does.
-#[test]
-fn connecting_by_hand() {
-    let idle = numbers("01 00", 0, 2, 0);
-    let printed = answer(0, "79", &idle, unchanged(257, "79"));
-    assert_eq!(answers(&byte_line(&fresh(), "7F")), printed);
-    let reply = "00 79 01 79 00 00 00 00 00 00 00";
-    let idle = numbers("02 00", 0, 1, 0);
-    let printed = answer(0, reply, &idle, unchanged(363, reply));
-    let frame = frame_line(&fresh(), "00 79 02 AA BB CC 00 00 00 00 00");
-    assert_eq!(answers(&frame), printed);
-    let none = numbers("00 00", 0, 1, 0);
-    let printed = answer(0, "", &none, unchanged(257, ""));
-    assert_eq!(answers(&byte_line(&fresh(), "79")), printed);
-    let printed = answer(0, "", &none, unchanged(363, ""));
-    let frame = frame_line(&fresh(), "00 7F 00 00 00 00 00 00 00 00 00");
-    assert_eq!(answers(&frame), printed);
-}
-
 /// A byte that does not end its step is staged at index taken, and the others stay.
 #[test]
 fn a_staged_byte_by_hand() {
@@ -178,47 +150,6 @@ fn a_write_to_flash_by_hand() {
     assert_eq!(answers(&byte_line(&session, "3D")), refused);
 }
 
-/// "CAN 0x31 08 00 00 00 02, then eight bytes: three are programmed."
-#[test]
-fn a_padded_write_frame_by_hand() {
-    let at = numbers("02 01", 0, 3, 0x0800_0000);
-    let session = format!("{at} {}", staged(""));
-    let reply = "00 31 01 79 00 00 00 00 00 00 00";
-    let mut digests = unchanged(363, reply);
-    digests[1] = digest(0xF0, 32_768, &[(0, 0x10), (1, 0x20), (2, 0x30)]);
-    let printed = answer(0, reply, &numbers("02 00", 0, 1, 0), digests);
-    let line = frame_line(&session, "00 31 08 11 22 33 44 55 66 77 88");
-    assert_eq!(answers(&line), printed);
-}
-
-/// "63 9C, 01 00 1F 1E: USD 8 to 11 are FE FF FF 7F", then reset.
-#[test]
-fn a_protection_by_hand() {
-    let session = format!("{} {}", numbers("01 0C", 2, 3, 0), staged("00 1F"));
-    let mut digests = unchanged(257, "79");
-    digests[3] = digest(0xFF, 64, &[(0, 0xA5), (8, 0xFE), (11, 0x7F)]);
-    let printed = answer(0, "79", &numbers("00 00", 0, 1, 0), digests);
-    assert_eq!(answers(&byte_line(&session, "1E")), printed);
-}
-
-/// "Protected: 11 EE gives 1F; 92 6D gives 79 79 and wipes."
-#[test]
-fn a_locked_board_by_hand() {
-    let locked = |command: &str, byte: &str| {
-        let session = format!("{} {}", numbers("01 00", 1, 2, 0), staged(command));
-        answers(&byte_line_on(&[FLASH, SRAM, LOCKED_USD], &session, byte))
-    };
-    let mut digests = unchanged(257, "1F");
-    digests[3] = digest(0xFF, 64, &[(0, 0x00)]);
-    let printed = answer(0, "1F", &numbers("01 00", 0, 2, 0), digests);
-    assert_eq!(locked("11", "EE"), printed);
-    let mut digests = unchanged(257, "79 79");
-    digests[1] = digest(0xFF, 32_768, &[]);
-    digests[2] = digest(0x00, 8_192, &[]);
-    let printed = answer(0, "79 79", &numbers("00 00", 0, 1, 0), digests);
-    assert_eq!(locked("92", "6D"), printed);
-}
-
 /// A read of what a rule fills: byte 5 of seed 1 and stride 3 is 0x10.
 #[test]
 fn a_read_by_hand() {
@@ -231,22 +162,6 @@ fn a_read_by_hand() {
     digests[2] = adler32(&ruled);
     let printed = answer(0, reply, &numbers("01 00", 0, 2, 0), digests);
     assert_eq!(answers(&line), printed);
-}
-
-/// A board that has jumped is running, with the target as address and the fresh speed.
-#[test]
-fn a_jump_by_hand() {
-    let session = format!("{} {}", numbers("02 00", 0, 1, 7), staged("09"));
-    let reply = "00 21 01 79 00 00 00 00 00 00 00";
-    let running = numbers("03 00", 0, 1, 0x2000_1FFF);
-    let printed = answer(0, reply, &running, unchanged(363, reply));
-    let line = frame_line(&session, "00 21 04 20 00 1F FF 00 00 00 00");
-    assert_eq!(answers(&line), printed);
-    let line = frame_line(
-        &format!("{running} {}", staged("")),
-        "00 79 00 00 00 00 00 00 00 00 00",
-    );
-    assert_eq!(answers(&line), answer(5, "", &running, unchanged(363, "")));
 }
 
 /// Wrong lengths, an unsound session: the number, length 0, and everything as it was.
@@ -318,15 +233,7 @@ fn changed(line: &str, index: usize, field: &str) -> String {
 
 /// Runs the program `vectors` with these words and this input.
 pub fn vectors(words: &[&str], input: &[u8]) -> Output {
-    let mut program = Command::new(env!("CARGO_BIN_EXE_vectors"))
-        .args(words)
-        .stdin(Stdio::piped())
-        .stdout(Stdio::piped())
-        .stderr(Stdio::piped())
-        .spawn()
-        .unwrap();
-    program.stdin.take().unwrap().write_all(input).unwrap();
-    program.wait_with_output().unwrap()
+    program(env!("CARGO_BIN_EXE_vectors"), words, input)
 }
 
 /// The program answers vectors and stops at the first line that is none, or that no LF ends.

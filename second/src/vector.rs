@@ -1,0 +1,318 @@
+//! A vector: one call on a session and buffers of its own, its line, and the line of the answer to it.
+
+use crate::board::{ACCESS_BYTE, SECTOR_BITS_BYTES, SECTOR_BITS_FIRST};
+use crate::calls::{can_frame_in_place, uart_byte_in_place, Cause, Taken, ACCEPTED};
+use crate::ends::{Given, Met};
+use crate::hex::{print_fields, read_fields};
+use crate::memories::Store;
+use crate::session::{Session, STAGED_BYTES};
+use std::io::{self, BufRead, ErrorKind, Write};
+
+/// The bytes of a vector's line.
+pub const VECTOR_BYTES: usize = 83;
+
+/// The staged bytes that a vector says one by one.
+pub const STAGED_FIRST: usize = 16;
+
+/// The most bytes that are lent as a frame, right or wrong.
+pub const LONGEST_FRAME: usize = 12;
+
+/// The greatest prime below 65,536, by which both sums of Adler-32 are reduced.
+const MODULUS: u32 = 65_521;
+
+/// Where in a line the length of a buffer stands, behind it its seed and stride, and the most it may be.
+#[derive(Clone, Copy, Debug)]
+pub struct Buffer(usize, pub usize);
+
+/// The flash.
+pub const FLASH: Buffer = Buffer(41, 40_000);
+/// The SRAM.
+pub const SRAM: Buffer = Buffer(47, 10_000);
+/// The user system data.
+pub const USD: Buffer = Buffer(53, 80);
+/// The reply buffer, which has no stride.
+pub const REPLY: Buffer = Buffer(64, 400);
+
+/// Where in a line the bytes of a session stand.
+const CARRIER: usize = 0;
+const STEP: usize = 1;
+const TAKEN: usize = 2;
+const EXPECTED: usize = 10;
+const ADDRESS: usize = 18;
+const SPEED: usize = 22;
+const STAGED_RULE: usize = 23;
+const STAGED: usize = 25;
+
+/// Where in a line USD byte 0, USD bytes 8 to 11, the UART byte and the frame stand.
+const ACCESS: usize = 59;
+const SECTOR_BITS: usize = 60;
+const BYTE: usize = 69;
+const FRAME_LENGTH: usize = 70;
+const FRAME: usize = 71;
+
+/// One call, as its line says it.
+#[derive(Clone, Debug, PartialEq, Eq)]
+pub struct Vector {
+    given: Given,
+    bytes: [u8; VECTOR_BYTES],
+}
+
+/// What a call gave, and all that it left.
+#[derive(Clone, Debug, PartialEq, Eq)]
+pub struct After {
+    /// What the call gave.
+    pub called: Result<Taken, Cause>,
+    /// The next session.
+    pub session: Session,
+    /// The memories.
+    pub store: Store,
+    /// The reply buffer.
+    pub reply: Vec<u8>,
+}
+
+impl Vector {
+    /// The call of a byte on a session, of which only the first staged bytes are kept; all else is 0.
+    pub fn of(session: &Session, byte: u8) -> Vector {
+        let mut vector = Vector { given: Given::Byte, bytes: [0; VECTOR_BYTES] };
+        vector.put(CARRIER, &[session.carrier, session.step]);
+        vector.put_taken(session.taken as u64);
+        vector.put_expected(session.expected as u64);
+        vector.put(ADDRESS, &session.address.to_be_bytes());
+        vector.put_speed(session.speed);
+        vector.put(STAGED, &session.staged[..STAGED_FIRST]);
+        vector.put(BYTE, &[byte]);
+        vector
+    }
+
+    /// Puts bytes at a place.
+    fn put(&mut self, place: usize, bytes: &[u8]) {
+        self.bytes[place..][..bytes.len()].copy_from_slice(bytes);
+    }
+
+    /// Puts another number for taken.
+    pub fn put_taken(&mut self, taken: u64) {
+        self.put(TAKEN, &taken.to_be_bytes());
+    }
+
+    /// Puts another number for expected.
+    pub fn put_expected(&mut self, expected: u64) {
+        self.put(EXPECTED, &expected.to_be_bytes());
+    }
+
+    /// Puts another speed.
+    pub fn put_speed(&mut self, speed: u8) {
+        self.put(SPEED, &[speed]);
+    }
+
+    /// Puts another carrier and step.
+    pub fn put_step(&mut self, carrier: u8, step: u8) {
+        self.put(CARRIER, &[carrier, step]);
+    }
+
+    /// Puts the rule of the staged bytes that are not said one by one.
+    pub fn put_staged_rule(&mut self, rule: [u8; 2]) {
+        self.put(STAGED_RULE, &rule);
+    }
+
+    /// Puts the length of a buffer, its seed and, but for the reply buffer, its stride.
+    pub fn put_buffer(&mut self, buffer: Buffer, length: usize, rule: &[u8]) {
+        self.put(buffer.0, &(length as u32).to_be_bytes());
+        self.put(buffer.0 + 4, rule);
+    }
+
+    /// Puts USD byte 0 and USD bytes 8 to 11.
+    pub fn put_usd(&mut self, access: u8, bits: [u8; SECTOR_BITS_BYTES]) {
+        self.put(ACCESS, &[access]);
+        self.put(SECTOR_BITS, &bits);
+    }
+
+    /// Puts a byte in the place of the input.
+    pub fn put_byte(&mut self, byte: u8) {
+        self.put(BYTE, &[byte]);
+    }
+
+    /// Puts a frame, at most 12 bytes, in the place of the byte.
+    pub fn put_frame(&mut self, frame: &[u8]) {
+        self.given = Given::Frame;
+        self.put(BYTE, &[0, frame.len() as u8]);
+        self.put(FRAME, frame);
+    }
+
+    /// The number that stands in so many bytes at a place.
+    fn number(&self, place: usize, bytes: usize) -> u64 {
+        let bytes = self.bytes[place..][..bytes].iter();
+        bytes.fold(0, |number, byte| number << 8 | u64::from(*byte))
+    }
+
+    /// The length of a buffer.
+    fn length(&self, buffer: Buffer) -> usize {
+        self.number(buffer.0, 4) as usize
+    }
+
+    /// The bytes of a memory, each by seed and stride.
+    fn memory(&self, memory: Buffer) -> Vec<u8> {
+        let [seed, stride] = [4, 5].map(|place| self.bytes[memory.0 + place]);
+        let by_rule = |index| by_rule(seed, stride, index);
+        (0..self.length(memory)).map(by_rule).collect()
+    }
+
+    /// The session that the vector says.
+    pub fn session(&self) -> Session {
+        let first = &self.bytes[STAGED..][..STAGED_FIRST];
+        let [seed, stride] = [0, 1].map(|place| self.bytes[STAGED_RULE + place]);
+        let mut staged = [0; STAGED_BYTES];
+        for (index, byte) in staged.iter_mut().enumerate() {
+            let said = first.get(index).copied();
+            *byte = said.unwrap_or_else(|| by_rule(seed, stride, index));
+        }
+        Session {
+            carrier: self.bytes[CARRIER],
+            step: self.bytes[STEP],
+            taken: self.number(TAKEN, 8) as usize,
+            expected: self.number(EXPECTED, 8) as usize,
+            address: self.number(ADDRESS, 4) as u32,
+            speed: self.bytes[SPEED],
+            staged,
+        }
+    }
+
+    /// A fresh copy of the memories that the vector says.
+    pub fn store(&self) -> Store {
+        let mut usd = self.memory(USD);
+        let bits = (SECTOR_BITS_FIRST..).zip(&self.bytes[SECTOR_BITS..][..SECTOR_BITS_BYTES]);
+        for (index, value) in bits.chain([(ACCESS_BYTE, &self.bytes[ACCESS])]) {
+            if let Some(byte) = usd.get_mut(index) {
+                *byte = *value;
+            }
+        }
+        Store { flash: self.memory(FLASH), sram: self.memory(SRAM), usd }
+    }
+
+    /// A fresh copy of the reply buffer that the vector says.
+    pub fn reply(&self) -> Vec<u8> {
+        vec![self.bytes[REPLY.0 + 4]; self.length(REPLY)]
+    }
+
+    /// The bytes that are lent as a frame, or nothing if a UART byte is taken.
+    pub fn frame(&self) -> Option<&[u8]> {
+        let frame = &self.bytes[FRAME..][..usize::from(self.bytes[FRAME_LENGTH])];
+        (self.given == Given::Frame).then_some(frame)
+    }
+
+    /// The UART byte, 0 for a frame.
+    pub fn byte(&self) -> u8 {
+        self.bytes[BYTE]
+    }
+
+    /// Makes the call on fresh copies.
+    pub fn call(&self) -> After {
+        let (mut session, mut store, mut reply) = (self.session(), self.store(), self.reply());
+        let memories = &mut store.lend();
+        let called = match self.frame() {
+            None => uart_byte_in_place(&mut session, self.byte(), memories, &mut reply),
+            Some(frame) => can_frame_in_place(&mut session, frame, memories, &mut reply),
+        };
+        After { called, session, store, reply }
+    }
+
+    /// What the call meets.
+    pub fn met(&self) -> Met {
+        let id = self.number(FRAME, 2) as u16;
+        Met::call(&self.session(), self.given, id, &self.call().called)
+    }
+
+    /// The vector's line, ended by LF.
+    pub fn line(&self) -> Vec<u8> {
+        let letter = if self.given == Given::Frame { b'F' } else { b'B' };
+        line(letter, &self.bytes)
+    }
+
+    /// Reads a vector's line without its LF; any other line gives nothing.
+    pub fn read(text: &[u8]) -> Option<Vector> {
+        let (letter, fields) = text.split_first()?;
+        let given = match letter {
+            b'B' => Given::Byte,
+            b'F' => Given::Frame,
+            _ => return None,
+        };
+        let mut bytes = [0; VECTOR_BYTES];
+        let whole = read_fields(fields, &mut bytes)?.len() == VECTOR_BYTES;
+        let vector = Vector { given, bytes };
+        (whole && vector.is_in_order()).then_some(vector)
+    }
+
+    /// Tells whether no buffer is over its most, and what the other input would use is 0.
+    fn is_in_order(&self) -> bool {
+        let length = usize::from(self.bytes[FRAME_LENGTH]);
+        let unused = match self.given {
+            Given::Frame => length.min(LONGEST_FRAME),
+            _ => 0,
+        };
+        [FLASH, SRAM, USD, REPLY].iter().all(|buffer| self.length(*buffer) <= buffer.1)
+            && self.bytes[FRAME + unused..].iter().all(|byte| *byte == 0)
+            && length <= LONGEST_FRAME
+            && (self.given == Given::Frame || length == 0)
+            && (self.given == Given::Byte || self.byte() == 0)
+    }
+
+    /// The line of the answer to the vector, ended by LF.
+    pub fn answer(&self) -> Vec<u8> {
+        let After { called, session, store, reply } = self.call();
+        let (number, length) = match called {
+            Ok(taken) => (ACCEPTED, taken.length),
+            Err(cause) => (cause as u8, 0),
+        };
+        let mut bytes = vec![number];
+        bytes.extend((length as u64).to_be_bytes());
+        bytes.extend(&reply[..length]);
+        let said = Vector::of(&session, 0);
+        bytes.extend(&said.bytes[CARRIER..STAGED_RULE]);
+        for left in [&session.staged, &*store.flash, &store.sram, &store.usd, &reply] {
+            bytes.extend(adler32(left).to_be_bytes());
+        }
+        line(b'>', &bytes)
+    }
+}
+
+/// The byte at an index by seed and stride.
+fn by_rule(seed: u8, stride: u8, index: usize) -> u8 {
+    seed.wrapping_add(stride.wrapping_mul(index as u8))
+}
+
+/// A line of a letter and bytes, ended by LF.
+fn line(letter: u8, bytes: &[u8]) -> Vec<u8> {
+    let mut text = vec![letter];
+    print_fields(bytes, &mut text);
+    text.push(b'\n');
+    text
+}
+
+/// The Adler-32 of the bytes: the sum of all, from 1 on, and above it the sum of these sums.
+pub fn adler32(bytes: &[u8]) -> u32 {
+    let (sum, sums) = bytes.iter().fold((1, 0), |(sum, sums), byte| {
+        let sum = (sum + u32::from(*byte)) % MODULUS;
+        (sum, (sums + sum) % MODULUS)
+    });
+    sums << 16 | sum
+}
+
+/// Gives each vector line of the input to `take`; the first line that is none ends with an error.
+pub fn each(input: &mut impl BufRead, mut take: impl FnMut(&Vector) -> io::Result<()>) -> io::Result<()> {
+    let mut line = Vec::new();
+    for number in 1_u64.. {
+        line.clear();
+        if input.read_until(b'\n', &mut line)? == 0 {
+            break;
+        }
+        let vector = line.strip_suffix(b"\n").and_then(Vector::read);
+        let none = || io::Error::new(ErrorKind::InvalidData, format!("line {number} is no vector"));
+        take(&vector.ok_or_else(none)?)?;
+    }
+    Ok(())
+}
+
+/// Answers each vector line of the input.
+pub fn run(input: &mut impl BufRead, output: &mut impl Write) -> io::Result<()> {
+    each(input, |vector| output.write_all(&vector.answer()))?;
+    output.flush()
+}
