@@ -20,7 +20,7 @@ const COUNTS: [usize; 16] = [1, 1, 2, 2, 3, 4, 5, 7, 8, 9, 16, 17, 32, 64, 255, 
 const SECTOR_COUNTS: [usize; 8] = [1, 2, 3, 4, 31, 32, 33, 65_536];
 
 /// Sector numbers that name none.
-const NO_SECTORS: [u16; 7] = [32, 33, 128, 255, 256, 0x8000, 0xFFFF];
+const NO_SECTORS: [u16; 8] = [32, 32, 32, 33, 255, 256, 0x8000, 0xFFFF];
 
 /// Erase selectors that are no counts.
 const SELECTORS: [u16; 9] = [32, 33, 0x0100, 0xFFFA, 0xFFFB, 0xFFFC, 0xFFFD, 0xFFFE, 0xFFFF];
@@ -83,13 +83,15 @@ pub fn sector_count(address: u32, dice: &mut Dice) -> usize {
     }
 }
 
-/// Sector numbers, one of them now and then of no sector.
-pub fn sectors(count: usize, dice: &mut Dice) -> Vec<u16> {
-    let mut sectors: Vec<u16> = (0..count).map(|_| dice.below(SECTORS) as u16).collect();
-    if dice.once_in(6) {
+/// Sector numbers, often that of an address or the next one, one of them now and then of no sector.
+pub fn sectors(count: usize, address: u32, dice: &mut Dice) -> Vec<u16> {
+    let near = FLASH.offset_of(address, 1).map_or(0, |offset| offset / SECTOR_BYTES);
+    let next = (near + 1) % SECTORS;
+    let sector = |dice: &mut Dice| [near, next, dice.below(SECTORS), dice.below(SECTORS)][dice.below(4)] as u16;
+    let mut sectors: Vec<u16> = (0..count).map(|_| sector(dice)).collect();
+    if dice.once_in(4) {
         let any = dice.below(count);
-        let place = dice.one_of(&[count - 1, any]);
-        sectors[place] = dice.one_of(&NO_SECTORS);
+        sectors[dice.one_of(&[count - 1, any])] = dice.one_of(&NO_SECTORS);
     }
     sectors
 }

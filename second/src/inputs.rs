@@ -61,8 +61,8 @@ fn uart_items(step: UartStep, address: u32, x: usize, known: Known, dice: &mut D
         UartStep::EraseSelector => edges::selector(dice).to_be_bytes().to_vec(),
         UartStep::SpecialCheck => vec![],
         UartStep::WriteData => data(address, x, dice),
-        UartStep::EraseList => numbers(x, dice),
-        UartStep::ProtectList => indexes(x, dice),
+        UartStep::EraseList => numbers(x, known.recent, dice),
+        UartStep::ProtectList => indexes(x, known.recent, dice),
         UartStep::CrcCount => less_one(edges::sector_count(address, dice)).to_be_bytes().to_vec(),
     }
 }
@@ -87,8 +87,8 @@ pub fn frame(step: CanStep, session: &Session, known: Known, dice: &mut Dice) ->
     };
     let x = step.expects().count_of(session.expected);
     let items = match step {
-        CanStep::EraseList => numbers(x, dice),
-        CanStep::ProtectList => indexes(x, dice),
+        CanStep::EraseList => numbers(x, known.recent, dice),
+        CanStep::ProtectList => indexes(x, known.recent, dice),
         CanStep::Idle | CanStep::WriteData => data(session.address, x, dice),
     };
     let most = dice.one_of(&[FRAME_DATA_BYTES, FRAME_DATA_BYTES, FRAME_DATA_BYTES, 3]);
@@ -136,14 +136,14 @@ fn data(address: u32, x: usize, dice: &mut Dice) -> Vec<u8> {
 }
 
 /// Two-byte sector numbers.
-fn numbers(x: usize, dice: &mut Dice) -> Vec<u8> {
-    let sectors = edges::sectors(x, dice);
+fn numbers(x: usize, recent: u32, dice: &mut Dice) -> Vec<u8> {
+    let sectors = edges::sectors(x, recent, dice);
     sectors.iter().flat_map(|sector| sector.to_be_bytes()).collect()
 }
 
 /// One-byte sector indexes.
-fn indexes(x: usize, dice: &mut Dice) -> Vec<u8> {
-    let sectors = edges::sectors(x, dice);
+fn indexes(x: usize, recent: u32, dice: &mut Dice) -> Vec<u8> {
+    let sectors = edges::sectors(x, recent, dice);
     sectors.iter().map(|sector| *sector as u8).collect()
 }
 

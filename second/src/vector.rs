@@ -34,19 +34,19 @@ pub const USD: Buffer = Buffer(53, 80);
 pub const REPLY: Buffer = Buffer(64, 400);
 
 /// Where in a line the bytes of a session stand.
-const CARRIER: usize = 0;
-const STEP: usize = 1;
-const TAKEN: usize = 2;
-const EXPECTED: usize = 10;
+pub const CARRIER: usize = 0;
+pub const STEP: usize = 1;
+pub const TAKEN: usize = 2;
+pub const EXPECTED: usize = 10;
 const ADDRESS: usize = 18;
-const SPEED: usize = 22;
-const STAGED_RULE: usize = 23;
+pub const SPEED: usize = 22;
+pub const STAGED_RULE: usize = 23;
 const STAGED: usize = 25;
 
 /// Where in a line USD byte 0, USD bytes 8 to 11, the UART byte and the frame stand.
-const ACCESS: usize = 59;
-const SECTOR_BITS: usize = 60;
-const BYTE: usize = 69;
+pub const ACCESS: usize = 59;
+pub const SECTOR_BITS: usize = 60;
+pub const BYTE: usize = 69;
 const FRAME_LENGTH: usize = 70;
 const FRAME: usize = 71;
 
@@ -75,60 +75,24 @@ impl Vector {
     pub fn of(session: &Session, byte: u8) -> Vector {
         let mut vector = Vector { given: Given::Byte, bytes: [0; VECTOR_BYTES] };
         vector.put(CARRIER, &[session.carrier, session.step]);
-        vector.put_taken(session.taken as u64);
-        vector.put_expected(session.expected as u64);
+        vector.put(TAKEN, &(session.taken as u64).to_be_bytes());
+        vector.put(EXPECTED, &(session.expected as u64).to_be_bytes());
         vector.put(ADDRESS, &session.address.to_be_bytes());
-        vector.put_speed(session.speed);
+        vector.put(SPEED, &[session.speed]);
         vector.put(STAGED, &session.staged[..STAGED_FIRST]);
         vector.put(BYTE, &[byte]);
         vector
     }
 
     /// Puts bytes at a place.
-    fn put(&mut self, place: usize, bytes: &[u8]) {
+    pub fn put(&mut self, place: usize, bytes: &[u8]) {
         self.bytes[place..][..bytes.len()].copy_from_slice(bytes);
-    }
-
-    /// Puts another number for taken.
-    pub fn put_taken(&mut self, taken: u64) {
-        self.put(TAKEN, &taken.to_be_bytes());
-    }
-
-    /// Puts another number for expected.
-    pub fn put_expected(&mut self, expected: u64) {
-        self.put(EXPECTED, &expected.to_be_bytes());
-    }
-
-    /// Puts another speed.
-    pub fn put_speed(&mut self, speed: u8) {
-        self.put(SPEED, &[speed]);
-    }
-
-    /// Puts another carrier and step.
-    pub fn put_step(&mut self, carrier: u8, step: u8) {
-        self.put(CARRIER, &[carrier, step]);
-    }
-
-    /// Puts the rule of the staged bytes that are not said one by one.
-    pub fn put_staged_rule(&mut self, rule: [u8; 2]) {
-        self.put(STAGED_RULE, &rule);
     }
 
     /// Puts the length of a buffer, its seed and, but for the reply buffer, its stride.
     pub fn put_buffer(&mut self, buffer: Buffer, length: usize, rule: &[u8]) {
         self.put(buffer.0, &(length as u32).to_be_bytes());
         self.put(buffer.0 + 4, rule);
-    }
-
-    /// Puts USD byte 0 and USD bytes 8 to 11.
-    pub fn put_usd(&mut self, access: u8, bits: [u8; SECTOR_BITS_BYTES]) {
-        self.put(ACCESS, &[access]);
-        self.put(SECTOR_BITS, &bits);
-    }
-
-    /// Puts a byte in the place of the input.
-    pub fn put_byte(&mut self, byte: u8) {
-        self.put(BYTE, &[byte]);
     }
 
     /// Puts a frame, at most 12 bytes, in the place of the byte.

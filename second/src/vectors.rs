@@ -4,20 +4,23 @@ use crate::board::{self, ERASED};
 use crate::calls::{CAN_REPLY_BYTES, UART_REPLY_BYTES};
 use crate::dice::Dice;
 use crate::edges;
-use crate::ends::Kind;
+use crate::ends::{Kind, Met};
 use crate::frame::{frame_bytes, FRAME_HEAD_BYTES};
 use crate::inputs::{self, Known};
 use crate::reached::Reached;
 use crate::script::Walk;
-use crate::session::{CanStep, Session, Step, UartStep, CARRIER_CAN, CARRIER_RUNNING, HIGHEST_SPEED};
-use crate::vector::{Vector, FLASH, LONGEST_FRAME, REPLY, SRAM, STAGED_FIRST, USD};
+use crate::session::{Session, Step, CARRIER_CAN, CARRIER_RUNNING, HIGHEST_SPEED};
+use crate::vector::{
+    Vector, ACCESS, BYTE, CARRIER, EXPECTED, FLASH, LONGEST_FRAME, REPLY, SECTOR_BITS, SPEED, SRAM, STAGED_FIRST, STAGED_RULE, STEP, TAKEN,
+    USD,
+};
 
 /// How many vectors are tried, while there is something to reach, for the one that reaches the rarest.
 const TRIES: usize = 32;
 
 /// The vectors of a seed, so many.
 pub fn random(seed: u64, count: usize) -> Vec<Vector> {
-    let mut maker = Maker { dice: Dice::seeded(seed), walk: Walk::seeded(Kind::Mixed, seed) };
+    let mut maker = Maker { table: Kind::Calls.table(), dice: Dice::seeded(seed), walk: Walk::seeded(Kind::Mixed, seed) };
     let mut reached = Reached::nothing(Kind::Calls);
     let next = |_| {
         let tries = if reached.has_enough() { 1 } else { TRIES };
@@ -47,6 +50,7 @@ fn known(dice: &mut Dice) -> Known {
 
 /// Makes vectors.
 struct Maker {
+    table: Vec<Met>,
     dice: Dice,
     walk: Walk,
 }
@@ -64,21 +68,16 @@ impl Maker {
         self.lend_memories(&mut vector);
         self.lend_reply(&mut vector);
         self.input(&mut vector);
-        if self.dice.once_in(4) {
+        if self.dice.once_in(6) {
             self.unsound(&mut vector);
         }
         vector
     }
 
-    /// A sound session, such as a talk reaches or not, of which often one input is still to come.
+    /// A sound session at a step, the more that can come of it the likelier, such as a talk reaches or not, of which often one input is still to come.
     fn session(&mut self) -> Session {
         let dice = &mut self.dice;
-        let step = match dice.below(8) {
-            0 => dice.one_of(&[Step::None, Step::Running]),
-            1 => Step::Can(CanStep::Idle),
-            2 | 3 => Step::Can(dice.one_of(&CanStep::ALL)),
-            _ => Step::Uart(dice.one_of(&UartStep::ALL)),
-        };
+        let step = dice.one_of(&self.table).at.unwrap_or(Step::None);
         let mut session = Session::power_on();
         (session.carrier, session.step) = (step.carrier(), step.number());
         session.address = edges::any_address(dice);
@@ -100,8 +99,8 @@ impl Maker {
     fn lend_memories(&mut self, vector: &mut Vector) {
         let dice = &mut self.dice;
         let any = [dice.byte(), dice.byte()];
-        vector.put_staged_rule(dice.one_of(&[[0, 0], [0, 0], [31, 0], any]));
-        let wrong = if dice.once_in(5) { dice.below(3) } else { 3 };
+        vector.put(STAGED_RULE, &dice.one_of(&[[0, 0], [0, 0], [31, 0], any]));
+        let wrong = if dice.once_in(10) { dice.below(3) } else { 3 };
         let all_fresh = dice.once_in(3);
         let memories = [(FLASH, board::FLASH, ERASED), (SRAM, board::SRAM, 0), (USD, board::USD, ERASED)];
         for (index, (memory, region, fresh)) in memories.into_iter().enumerate() {
@@ -110,15 +109,16 @@ impl Maker {
             let any = [dice.byte(), dice.byte()];
             vector.put_buffer(memory, length, &if all_fresh { [fresh, 0] } else { any });
         }
-        vector.put_usd(edges::access(dice), edges::all_sector_bits(dice));
+        vector.put(ACCESS, &[edges::access(dice)]);
+        vector.put(SECTOR_BITS, &edges::all_sector_bits(dice));
     }
 
     /// Lends a reply buffer, now and then too short.
     fn lend_reply(&mut self, vector: &mut Vector) {
         let dice = &mut self.dice;
         let short = dice.one_of(&[0, UART_REPLY_BYTES - 1, UART_REPLY_BYTES, CAN_REPLY_BYTES - 1]);
-        let right = dice.one_of(&[UART_REPLY_BYTES, CAN_REPLY_BYTES, CAN_REPLY_BYTES, REPLY.1]);
-        let length = if dice.once_in(6) { short } else { right };
+        let right = dice.one_of(&[CAN_REPLY_BYTES, CAN_REPLY_BYTES, REPLY.1]);
+        let length = if dice.once_in(8) { short } else { right };
         vector.put_buffer(REPLY, length, &[dice.byte()]);
     }
 
@@ -140,7 +140,7 @@ impl Maker {
                 return self.frame(vector, frame);
             }
         };
-        vector.put_byte(if dice.once_in(6) { dice.wrong(byte) } else { byte });
+        vector.put(BYTE, &[if dice.once_in(6) { dice.wrong(byte) } else { byte }]);
     }
 
     /// Gives a frame, now and then spoilt, of a wrong length, or with a DLC that is none.
@@ -152,11 +152,11 @@ impl Maker {
         let mut frame = frame_bytes(id, &data).to_vec();
         let unused = FRAME_HEAD_BYTES + data.len()..;
         frame[unused].fill(dice.one_of(&[0, 0, 0xEE]));
-        if dice.once_in(8) {
+        if dice.once_in(16) {
             let dlc = dice.between(9, 255) as u8;
             frame[FRAME_HEAD_BYTES - 1] = dice.one_of(&[9, 15, dlc]);
         }
-        if dice.once_in(8) {
+        if dice.once_in(16) {
             frame.resize(dice.below(LONGEST_FRAME + 1), dice.byte());
         }
         vector.put_frame(&frame);
@@ -170,15 +170,15 @@ impl Maker {
         let beyond = session.sound_step().map_or(0, |step| step.expects().beyond()) as u64;
         let huge = edges::huge(dice);
         match dice.below(8) {
-            0 => vector.put_step(session.carrier, dice.one_of(&[1, 4, 14, 0xFF])),
-            1 => vector.put_step(dice.one_of(&[CARRIER_RUNNING + 1, 0x80, 0xFF]), session.step),
-            2 => vector.put_speed(dice.one_of(&[HIGHEST_SPEED + 1, 0x80, 0xFF])),
-            3 | 4 => vector.put_expected(dice.one_of(&[huge, expected + 1, expected - 1, beyond])),
+            0 => vector.put(STEP, &[dice.one_of(&[1, 4, 14, 0xFF])]),
+            1 => vector.put(CARRIER, &[dice.one_of(&[CARRIER_RUNNING + 1, 0x80, 0xFF])]),
+            2 => vector.put(SPEED, &[dice.one_of(&[HIGHEST_SPEED + 1, 0x80, 0xFF])]),
+            3 | 4 => vector.put(EXPECTED, &dice.one_of(&[huge, expected + 1, expected - 1, beyond]).to_be_bytes()),
             5 => {
-                vector.put_taken(huge.saturating_sub(1));
-                vector.put_expected(huge);
+                vector.put(TAKEN, &huge.saturating_sub(1).to_be_bytes());
+                vector.put(EXPECTED, &huge.to_be_bytes());
             }
-            _ => vector.put_taken(dice.one_of(&[huge, expected, expected + 1])),
+            _ => vector.put(TAKEN, &dice.one_of(&[huge, expected, expected + 1]).to_be_bytes()),
         }
     }
 }
