@@ -7,7 +7,6 @@ ghost use lib.Dec.{T};
 ghost use lib.ListN.{length};
 ghost use Rattle.board.specs.Board.{sectors};
 ghost use Rattle.board.specs.Quantities.{largestCount};
-ghost use Rattle.board.specs.View.{viewOf};
 ghost use Rattle.memories.specs.Effects.{stagedBytes};
 ghost use Rattle.command.specs.Progress.{progressAt};
 ghost use Rattle.frames.specs.Frames.{classic, frameOf};
@@ -68,7 +67,8 @@ fn erase_frame(
 // A frame that comes while the indexes of 0x63 are gathered.
 fn protect_frame(taken: usize, expected: usize, bytes: &[u8], id: u16, carried: &[u8]) -> Decision
     requires { ⌜ (taken < expected) × (expected ≤ largestCount) × (length (now bytes) ≡ stagedBytes) × (length (now carried) ≤ classic .largest) ⌝ }
-    ensures { λ r. ⌜ r ≡ decided Step.ProtectList (progressAt taken expected 0 (now (bytes .entry))) (viewOf []) (frameOf id (now (carried .entry))) ⌝ }
+    ensures { λ r. ⌜ ((view : View)
+        → r ≡ decided Step.ProtectList (progressAt taken expected 0 (now (bytes .entry))) view (frameOf id (now (carried .entry)))) ⌝ }
 {
     let done = list_deciding::protect::protect(bytes, expected);
     can::gathering(

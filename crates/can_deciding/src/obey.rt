@@ -1,8 +1,6 @@
 ghost use mathlib.Core.Path.{_≡_};
-ghost use mathlib.Core.List.{[]};
 ghost use lib.Dec.{T};
 ghost use lib.ListN.{length};
-ghost use Rattle.board.specs.View.{viewOf};
 ghost use Rattle.command.specs.Commands.{canCommands, lookUp};
 ghost use Rattle.command.specs.declared.Command.the-variants.{ReadMemory, WriteMemory, Erase, ProgramProtect, FirmwareCrc, Speed};
 ghost use Rattle.can.specs.Conversation.{dlcFits, dlcRight, erasedOrNot, selected, obeyed, commanded};
@@ -63,7 +61,7 @@ fn dlc_right(number: u8, dlc: usize) -> bool
 // 0x11: the bytes are sent, or refused.
 fn read_memory(carried: &[u8]) -> Decision
     requires { ⌜ T (dlcFits ReadMemory (length (now carried))) ⌝ }
-    ensures { λ r. ⌜ r ≡ obeyed (viewOf []) (now (carried .entry)) ReadMemory ⌝ }
+    ensures { λ r. ⌜ ((view : View) → r ≡ obeyed view (now (carried .entry)) ReadMemory) ⌝ }
 {
     deciding::read::read(
         sent::address_in(carried),
@@ -127,7 +125,7 @@ fn erase(view: View, carried: &[u8]) -> Decision
 // 0x63: ACK, and the indexes are gathered.
 fn program_protect(carried: &[u8]) -> Decision
     requires { ⌜ T (dlcFits ProgramProtect (length (now carried))) ⌝ }
-    ensures { λ r. ⌜ r ≡ obeyed (viewOf []) (now (carried .entry)) ProgramProtect ⌝ }
+    ensures { λ r. ⌜ ((view : View) → r ≡ obeyed view (now (carried .entry)) ProgramProtect) ⌝ }
 {
     command::answer(
         Told::Ack,
@@ -138,7 +136,7 @@ fn program_protect(carried: &[u8]) -> Decision
 // 0xAC: the checksum is sent, or refused.
 fn firmware_crc(carried: &[u8]) -> Decision
     requires { ⌜ T (dlcFits FirmwareCrc (length (now carried))) ⌝ }
-    ensures { λ r. ⌜ r ≡ obeyed (viewOf []) (now (carried .entry)) FirmwareCrc ⌝ }
+    ensures { λ r. ⌜ ((view : View) → r ≡ obeyed view (now (carried .entry)) FirmwareCrc) ⌝ }
 {
     deciding::sum::sum(
         sent::address_in(carried),
@@ -152,7 +150,7 @@ fn firmware_crc(carried: &[u8]) -> Decision
 // 0x03: a speed from 0 to 3 is set, and the second byte is free.
 fn set_speed(carried: &[u8]) -> Decision
     requires { ⌜ T (dlcFits Speed (length (now carried))) ⌝ }
-    ensures { λ r. ⌜ r ≡ obeyed (viewOf []) (now (carried .entry)) Speed ⌝ }
+    ensures { λ r. ⌜ ((view : View) → r ≡ obeyed view (now (carried .entry)) Speed) ⌝ }
 {
     let speed = carried[0];
     command::accept_if(

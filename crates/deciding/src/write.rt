@@ -1,10 +1,9 @@
 ghost use mathlib.Core.Path.{_≡_};
-ghost use mathlib.Core.List.{[]};
 ghost use Prim.Native.Nat.{_+_, _≤_, _<_};
 ghost use Rattle.words.specs.Lists.{any};
 ghost use Rattle.board.specs.Board.{extentOf};
 ghost use Rattle.board.specs.Regions.{touched};
-ghost use Rattle.board.specs.View.{viewOf, writeProtected};
+ghost use Rattle.board.specs.View.{writeProtected};
 ghost use Rattle.board.specs.declared.Region.the-variants.{Flash, Usd};
 ghost use Rattle.rules.specs.Rules.{writeVerdictAt, writeVerdict, afterWrite, writeAt, writing};
 use board::Address;
@@ -45,7 +44,7 @@ fn flash_verdict(view: View, at: usize, x: usize) -> Verdict
 
 // Whether x bytes may be written into user system data: only the whole of it.
 fn usd_verdict(at: usize, x: usize) -> Verdict
-    ensures { λ r. ⌜ r ≡ writeVerdictAt (viewOf []) (Place.In Usd at) x ⌝ }
+    ensures { λ r. ⌜ ((view : View) → r ≡ writeVerdictAt view (Place.In Usd at) x) ⌝ }
 {
     let whole = (at == 0) & (x == Board::USD_BYTES);
     if whole {

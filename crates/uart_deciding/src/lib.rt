@@ -3,13 +3,11 @@ mod checksum;
 mod obey;
 
 ghost use mathlib.Core.Path.{_≡_};
-ghost use mathlib.Core.List.{[]};
 ghost use Prim.Native.Nat.{_+_, _≤_, _<_};
 ghost use lib.Dec.{T, ltb};
 ghost use lib.ListN.{length};
 ghost use Rattle.board.specs.Board.{sectors};
 ghost use Rattle.board.specs.Quantities.{largestCount, selectorBytes};
-ghost use Rattle.board.specs.View.{viewOf};
 ghost use Rattle.memories.specs.Effects.{stagedBytes};
 ghost use Rattle.command.specs.Decision.{if_gives_else_, answer};
 ghost use Rattle.command.specs.declared.Next.the-variants.{Gather};
@@ -75,7 +73,7 @@ fn command_ends(view: View, bytes: &[u8]) -> Decision
 // The end of a read's length and its complement.
 fn read_ends(address: u32, bytes: &[u8]) -> Decision
     requires { ⌜ length (now bytes) ≡ stagedBytes ⌝ }
-    ensures { λ r. ⌜ r ≡ complete Step.ReadLength complementedByte address (now (bytes .entry)) (viewOf []) ⌝ }
+    ensures { λ r. ⌜ ((view : View) → r ≡ complete Step.ReadLength complementedByte address (now (bytes .entry)) view) ⌝ }
 {
     command::accept_if(
         checksum::complemented(bytes),
@@ -100,7 +98,7 @@ fn write_ends(view: View, expected: usize, address: u32, bytes: &[u8]) -> Decisi
 // The end of an erase's selector.
 fn selector_ends(bytes: &[u8]) -> Decision
     requires { ⌜ length (now bytes) ≡ stagedBytes ⌝ }
-    ensures { λ r. ⌜ r ≡ complete Step.EraseSelector selectorBytes 0 (now (bytes .entry)) (viewOf []) ⌝ }
+    ensures { λ r. ⌜ ((view : View) → r ≡ complete Step.EraseSelector selectorBytes 0 (now (bytes .entry)) view) ⌝ }
 {
     selected(list_deciding::erase::selector_of(words::number2(bytes[0], bytes[1])))
 }
@@ -136,7 +134,7 @@ fn erase_ends(view: View, expected: usize, bytes: &[u8]) -> Decision
 // The end of the indexes of 0x63 and their checksum.
 fn protect_ends(expected: usize, bytes: &[u8]) -> Decision
     requires { ⌜ (expectedFor 1 ≤ expected) × (expected ≤ expectedFor largestCount) × (length (now bytes) ≡ stagedBytes) ⌝ }
-    ensures { λ r. ⌜ r ≡ complete Step.ProtectList expected 0 (now (bytes .entry)) (viewOf []) ⌝ }
+    ensures { λ r. ⌜ ((view : View) → r ≡ complete Step.ProtectList expected 0 (now (bytes .entry)) view) ⌝ }
 {
     let x = expected - 1;
     command::accept_if(
@@ -149,7 +147,7 @@ fn protect_ends(expected: usize, bytes: &[u8]) -> Decision
 // The end of Firmware CRC's count and its checksum.
 fn crc_ends(address: u32, bytes: &[u8]) -> Decision
     requires { ⌜ length (now bytes) ≡ stagedBytes ⌝ }
-    ensures { λ r. ⌜ r ≡ complete Step.CrcCount checkedCount address (now (bytes .entry)) (viewOf []) ⌝ }
+    ensures { λ r. ⌜ ((view : View) → r ≡ complete Step.CrcCount checkedCount address (now (bytes .entry)) view) ⌝ }
 {
     command::accept_if(
         bytes[2] == words::xor_from(CRC_CHECK, bytes, 2),

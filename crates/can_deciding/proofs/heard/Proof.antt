@@ -53,4 +53,4 @@ heard-spec =
     (λ c. rw (← c .before .before .before .of .ensures, c .before .enum-told .given .1) (c .command-frame .ensures))
     (λ c. rw (← c .before .before .before .of .ensures, c .before .enum-told2 .given .1) (c .write-frame .ensures))
     (λ c. rw (← c .before .before .before .of .ensures, c .before .enum-told3 .given .1) (c .erase-frame .ensures))
-    (λ c. rw (← c .before .before .before .of .ensures, c .before .enum-told4 .given .1) (c .protect-frame .ensures)))
+    (λ c. rw (← c .before .before .before .of .ensures, c .before .enum-told4 .given .1) (c .protect-frame .ensures (start (c .before .before .before) .args .view))))

@@ -12,4 +12,4 @@ protect-frame-spec =
     (λ c κs. search needs)
     (λ c κs. search needs)
     (λ c κs. search needs)
-    (λ c. rw (← c .before .before .protect .ensures, ← c .before .unless-extra .ensures) (c .gathering .ensures)))
+    (λ c. λ view. rw (← c .before .before .protect .ensures, ← c .before .unless-extra .ensures) (c .gathering .ensures)))

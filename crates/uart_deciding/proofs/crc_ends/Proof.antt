@@ -13,7 +13,7 @@ returns c =
     let after-long-count = after-sum .before in
     let after-xor-from = after-long-count .before .before .before in
     let start = after-xor-from .before .before .before in
-    rw (
+    λ view. rw (
       ← after-xor-from .xor-from .ensures,
       take-two (start .args .bytes .now) (omega arith),
       ← after-long-count .long-count .ensures .0,

@@ -13,4 +13,4 @@ protect-ends-spec =
     (λ c κs. search needs)
     (λ c κs. search needs)
     (λ c κs. search needs)
-    (λ c. rw (← c .before .before .checks-counted .ensures, ← c .before .protect .ensures) (c .accept-if .ensures)))
+    (λ c. λ view. rw (← c .before .before .checks-counted .ensures, ← c .before .protect .ensures) (c .accept-if .ensures)))

@@ -10,7 +10,7 @@ returns c =
     let after-read = c .before in
     let after-count-of = after-read .before in
     let after-complemented = after-count-of .before .before in
-    rw (← after-complemented .complemented .ensures, ← after-count-of .count-of .ensures .0, ← after-read .read .ensures)
+    λ view. rw (← after-complemented .complemented .ensures, ← after-count-of .count-of .ensures .0, ← after-read .read .ensures)
     (c .accept-if .ensures)
 
 pub read-ends-spec : {M : Type 1} → statement M

@@ -12,7 +12,7 @@ returns c =
     let after-selector-of = c .before in
     let after-number2 = after-selector-of .before in
     let start = after-number2 .before .before .before .before in
-    rw (take-two (start .args .bytes .now) (omega arith), ← after-number2 .number2 .ensures, ← after-selector-of .selector-of .ensures)
+    λ view. rw (take-two (start .args .bytes .now) (omega arith), ← after-number2 .number2 .ensures, ← after-selector-of .selector-of .ensures)
     (c .selected .ensures)
 
 pub selector-ends-spec : {M : Type 1} → statement M

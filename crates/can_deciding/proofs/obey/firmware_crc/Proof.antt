@@ -20,7 +20,7 @@ returns c =
     let after-long-count = c .before in
     let after-address-in = after-long-count .before .before .before in
     let start = after-address-in .before .before in
-    rw (
+    λ view. rw (
       last-two 4 (start .args .carried .now) (eqb→eq (length (start .args .carried .now)) 6 (start .pre)),
       ← after-address-in .address-in .ensures,
       ← after-long-count .long-count .ensures .0,

@@ -14,7 +14,7 @@ returns c =
     let after-count-of = c .before in
     let after-number = after-count-of .before .before in
     let start = after-number .before .before in
-    rw (
+    λ view. rw (
       last-number 0 (start .args .carried .now) (eqb→eq (length (start .args .carried .now)) 1 (start .pre)),
       ← after-number .number .ensures,
       ← after-count-of .count-of .ensures .0,

@@ -14,7 +14,7 @@ returns c =
     let after-count-of = c .before in
     let after-address-in = after-count-of .before .before in
     let start = after-address-in .before .before in
-    rw (
+    λ view. rw (
       last-number 4 (start .args .carried .now) (eqb→eq (length (start .args .carried .now)) 5 (start .pre)),
       ← after-address-in .address-in .ensures,
       ← after-count-of .count-of .ensures .0,

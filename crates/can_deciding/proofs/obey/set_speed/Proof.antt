@@ -15,4 +15,4 @@ set-speed-spec =
     (λ c. let h = eqb→eq (length (c .before .before .args .carried .now)) 2 (c .before .before .pre) in omega arith)
     (λ c κs. search needs)
     (λ c κs. search needs)
-    (λ c. rw (← c .before .answer .ensures) (c .accept-if .ensures)))
+    (λ c. λ view. rw (← c .before .answer .ensures) (c .accept-if .ensures)))

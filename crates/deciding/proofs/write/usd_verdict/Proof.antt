@@ -8,5 +8,5 @@ unfolding writeVerdictAt
 usd-verdict-spec =
     tie.close
     (tie.spec
-    (λ c. rw (c .if1 .taken))
-    (λ c. rw (c .if1 .left)))
+    (λ c. λ view. rw (c .if1 .taken))
+    (λ c. λ view. rw (c .if1 .left)))

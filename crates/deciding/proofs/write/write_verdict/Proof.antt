@@ -60,7 +60,7 @@ returns-3 c =
       sym (after-known .known .ensures) ∙ then1 .if1 .taken,
       sym (after-place .place .ensures) ∙ after-place2 .place2 .given .1,
       after-enum-told3 .enum-told3 .given .1,
-    ) (c .usd-verdict .ensures)
+    ) (c .usd-verdict .ensures (after-known .before .args .view))
 
 returns-4 : tie.Need-returns-4
 unfolding writeVerdict writeVerdictAt
