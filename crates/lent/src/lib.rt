@@ -19,7 +19,7 @@ pub const UNSOUND_SESSION: u8 = 4;
 // How many bytes a session is lent in.
 pub const LENGTH: usize = 280;
 
-// Where each number stands, and where the staged bytes begin.
+// Where each number stands.
 const CARRIER: usize = 0;
 
 const STEP: usize = 1;
@@ -32,7 +32,8 @@ const ADDRESS: usize = 18;
 
 const SPEED: usize = 22;
 
-const STAGED: usize = 23;
+// Where the staged bytes begin.
+pub const STAGED: usize = 23;
 
 // A number that is no carrier's.
 const NO_CARRIER: u8 = 4;

@@ -1,14 +1,15 @@
 -- How much of each thing there is: docs/VECTORS.md. Assumes nothing.
 use Prim.Native.Nat.{ℕ, _+_, _*_}
-use Rattle.numbers.specs.Numbers.{shortBytes, longBytes}
+use Rattle.numbers.specs.Numbers.{shortBytes}
+use Rattle.lent.specs.Sessions.{stagedPlace}
 
 -- the bytes of a vector
 abbrev pub vectorBytes : ℕ
 vectorBytes = 83
 
--- the bytes of an answer that say the next session: three of one byte, two long numbers, two short ones
+-- the bytes of an answer that say the next session: those that are lent before its staged bytes, and a digest of these
 abbrev pub sessionBytes : ℕ
-sessionBytes = 3 + 2 * longBytes + 2 * shortBytes
+sessionBytes = stagedPlace + shortBytes
 
 -- the bytes of an answer that say what was lent: four short numbers
 abbrev pub lentBytes : ℕ

@@ -65,17 +65,14 @@ fn number(n: u64, width: usize, out: &mut [u8; ROOM], at: usize) -> usize
     bytes(&told, width, out, at)
 }
 
-// Prints a session's numbers and the digest of its staged bytes, and tells where they end.
+// Prints a session's numbers as they are lent and the digest of its staged bytes, and tells where they end.
 fn session(next: Session, out: &mut [u8; ROOM], at: usize) -> usize
     requires { ⌜ at + sessionBytes * fieldCharacters ≤ lineRoom ⌝ }
     ensures { λ r. ⌜ r ≡ at + sessionBytes * fieldCharacters ⌝ }
 {
-    let mut end = number(next.carrier as u64, ONE, out, at);
-    end = number(next.step as u64, ONE, out, end);
-    end = number(next.taken as u64, LONG, out, end);
-    end = number(next.expected as u64, LONG, out, end);
-    end = number(next.address as u64, SHORT, out, end);
-    end = number(next.speed as u64, ONE, out, end);
+    let mut lent = [0u8; lent::LENGTH];
+    lent::write(next, &mut lent);
+    let end = bytes(&lent, lent::STAGED, out, at);
     number(digest(&next.staged), SHORT, out, end)
 }
 

@@ -6,22 +6,10 @@ use board::Board;
 use boot::Session;
 use numbers::SHORT;
 
-// How many bytes a vector has, and where its parts stand.
+// How many bytes a vector has, and where its parts stand: first a session's numbers, as they are lent.
 pub const BYTES: usize = 83;
 
-const CARRIER: usize = 0;
-
-const STEP: usize = 1;
-
-const TAKEN: usize = 2;
-
-const EXPECTED: usize = 10;
-
-const ADDRESS: usize = 18;
-
-const SPEED: usize = 22;
-
-const STAGED: usize = 23;
+const STAGED: usize = lent::STAGED;
 
 const STAGED_FRONT: usize = 25;
 
@@ -103,18 +91,13 @@ pub fn fill_lent(
     fill(buffer, vector[BUFFER + SEED], 0);
 }
 
-// The session that a vector says.
+// The session that a vector says: its numbers as they are lent, and its staged bytes by seed and stride and one by one.
 pub fn session(vector: &[u8; BYTES]) -> Session {
     let mut staged = [0u8; memories::STAGED];
     fill(&mut staged, vector[STAGED], vector[STAGED + 1]);
     words::copy(&mut staged, 0, vector, STAGED_FRONT, STAGED_GIVEN);
-    Session {
-        carrier: vector[CARRIER],
-        step: vector[STEP],
-        taken: numbers::long_at(vector, TAKEN),
-        expected: numbers::long_at(vector, EXPECTED),
-        address: numbers::short_at(vector, ADDRESS),
-        speed: vector[SPEED],
-        staged: staged,
-    }
+    let mut lent = [0u8; lent::LENGTH];
+    words::copy(&mut lent, 0, vector, 0, lent::STAGED);
+    words::copy(&mut lent, lent::STAGED, &staged, 0, memories::STAGED);
+    lent::read(&lent)
 }
