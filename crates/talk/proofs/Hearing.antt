@@ -30,7 +30,7 @@ pub one-more : {d e : Desk} {lent left : List ℕ} → HasHeard d → Turns d le
 one-more h t = record {
   text = h .text ++ t .text;
   desk =
-      t .desk ∙ ap (λ (x : Desk). hears (t .text) x .state) (h .desk)
+      t .heard .desk ∙ ap (λ (x : Desk). hears (t .text) x .state) (h .desk)
       ∙ sym (ap (λ (r : Told Desk). r .state) (hears-parts (h .text) (t .text) freshDesk));
 }
 

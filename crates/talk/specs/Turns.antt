@@ -1,7 +1,7 @@
 -- What is so between two reads, and what some text that was read has left.
 use Prim.Native.Nat.{ℕ, _+_, _*_, _≤_}
 use mathlib.Core.Path.{_≡_}
-use mathlib.Core.List.{List}
+use mathlib.Core.List.{List, [], _∷_, _++_}
 use lib.ListN.{length}
 use Rattle.words.specs.Over.{put}
 use Rattle.memories.specs.Memories.{Memories}
@@ -15,9 +15,13 @@ use Rattle.hearing.specs.declared.Desk.{Desk}
 abbrev pub readCharacters : ℕ
 readCharacters = 4096
 
--- the room for what one read makes it print, whatever it brings
+-- the most characters of it that are heard at once
+abbrev pub pieceCharacters : ℕ
+pieceCharacters = 256
+
+-- the room for what one piece makes it print, whatever it is
 abbrev pub outCharacters : ℕ
-outCharacters = deskRoom * (keptCharacters + readCharacters)
+outCharacters = deskRoom * (keptCharacters + pieceCharacters)
 
 -- there is room for the line that has begun and for the answers, and none is left unwritten
 pub record Ready (d : Desk) (line out : List ℕ) : Type 0 where
@@ -26,12 +30,28 @@ pub record Ready (d : Desk) (line out : List ℕ) : Type 0 where
   pub written : d .end ≡ 0
   pub answers : outCharacters ≤ length out
 
--- a read has brought some text: the desk is then as the paper says of it, and what is to be printed stands at the front of the room for answers
+-- texts one behind another
+abbrev pub joined : List (List ℕ) → List ℕ
+joined [] = []
+joined (t ∷ ts) = t ++ joined ts
+
+-- the room for answers after texts were heard: what is to be printed of each stands at its front, and is written before the next is heard
+abbrev pub roomAfter : List (List ℕ) → D.Desk → List ℕ → List ℕ
+roomAfter [] d out = out
+roomAfter (t ∷ ts) d out = roomAfter ts (hears t d .state) (put out 0 (hears t d .text))
+
+-- a text was taken in: the desk is then as the paper says of it, and what is to be printed was written, the text being cut where it was
+pub record TakesIn (text : List ℕ) (before : D.Desk) (lent : List ℕ) (after : D.Desk) (left : List ℕ) : Type 0 where
+  pub parts : List (List ℕ)
+  pub whole : joined parts ≡ text
+  pub desk : after ≡ hears text before .state
+  pub told : left ≡ roomAfter parts before lent
+
+-- a read has brought some text, which was taken in
 pub record Turns (before : D.Desk) (lent : List ℕ) (after : D.Desk) (left : List ℕ) : Type 0 where
   pub text : List ℕ
   pub few : length text ≤ readCharacters
-  pub desk : after ≡ hears text before .state
-  pub told : left ≡ put lent 0 (hears text before .text)
+  pub heard : TakesIn text before lent after left
 
 -- a desk is what the fresh board, just powered, becomes by some text
 pub record HasHeard (d : D.Desk) : Type 0 where

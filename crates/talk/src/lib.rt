@@ -1,12 +1,13 @@
 // Reads a host's lines and writes the answers, over file descriptors: what is read and written is not proved, what is done with it is.
 ghost use mathlib.Core.Path.{_≡_};
+ghost use mathlib.Core.Logic.{_⊎_};
 ghost use Prim.Native.Nat.{_+_, _^_, _≤_, _<_};
 ghost use lib.ListN.{length};
 ghost use Rattle.memories.specs.Lent.{held, were, are};
 ghost use Rattle.memories.specs.Memories.{freshMemories};
 ghost use Rattle.answers.specs.Desk.{keptCharacters};
 ghost use Rattle.hearing.specs.Promise.{deskOf};
-ghost use Rattle.talk.specs.Turns.{readCharacters, outCharacters, Ready, Turns, LeftBy};
+ghost use Rattle.talk.specs.Turns.{readCharacters, outCharacters, Ready, TakesIn, Turns, LeftBy};
 use board::Board;
 use boot::Session;
 use hearing::Desk;
@@ -18,8 +19,11 @@ use memories::ERASED;
 // How many characters are read at most at once.
 const READ_CHARACTERS: usize = 4096;
 
-// The room for what one read makes it print, whatever it brings.
-const OUT_CHARACTERS: usize = can::ROOM * (KEPT_CHARACTERS + READ_CHARACTERS);
+// How many characters of it are heard at most at once.
+const PIECE_CHARACTERS: usize = 256;
+
+// The room for what one piece makes it print, whatever it is.
+const OUT_CHARACTERS: usize = can::ROOM * (KEPT_CHARACTERS + PIECE_CHARACTERS);
 
 // How many reads are made at most, a number that no run uses up.
 const TURNS: u64 = 0x0008_0000_0000_0000;
@@ -27,6 +31,12 @@ const TURNS: u64 = 0x0008_0000_0000_0000;
 // The desk after a read, and whether there was something to read and it could be answered.
 pub struct Turned {
     pub desk: Desk,
+    pub going: bool,
+}
+
+// Where the answers to a piece may stand, and whether all that was to be written was.
+pub struct Place {
+    pub at: usize,
     pub going: bool,
 }
 
@@ -60,7 +70,75 @@ fn room() -> [u8; OUT_CHARACTERS]
     [0; OUT_CHARACTERS]
 }
 
-// Reads once, takes in what came, and writes once what is to be answered.
+// Writes what is to be answered, if what came before it could be written.
+fn write_on(going: bool, to: i32, text: &[u8]) -> bool {
+    if going {
+        io::write_all(to, text)
+    } else {
+        false
+    }
+}
+
+// Where so many characters may stand behind the answers that are there; where they may not, these are written.
+fn make_room(end: usize, need: usize, going: bool, to: i32, out: &[u8]) -> Place
+    requires { ⌜ end ≤ length (now out) ⌝ }
+    requires { ⌜ need ≤ length (now out) ⌝ }
+    ensures place { λ r. ⌜ ((r .at ≡ end) ⊎ (r .at ≡ 0)) ⌝ }
+    ensures fits { λ r. ⌜ r .at + need ≤ length (now (out .entry)) ⌝ }
+{
+    if need <= out.len() - end {
+        Place {
+            at: end,
+            going: going,
+        }
+    } else {
+        Place {
+            at: 0,
+            going: write_on(going, to, &out[..end]),
+        }
+    }
+}
+
+// Takes a text in piece by piece, and writes what is to be answered, at the end and where there is no room for more.
+fn take_in(
+    desk: Desk,
+    text: &[u8],
+    to: i32,
+    line: &mut [u8],
+    flash: &mut [u8],
+    sram: &mut [u8],
+    usd: &mut [u8],
+    out: &mut [u8],
+) -> Turned
+    requires { ⌜ Ready desk (now line) (now out) ⌝ }
+    requires { ⌜ desk .lines + length (now text) < 2 ^ 64 ⌝ }
+    ensures ready { λ r. ⌜ Ready (r .desk) (now (line .exit)) (now (out .exit)) ⌝ }
+    ensures few { λ r. ⌜ r .desk .lines ≤ desk .lines + length (now (text .entry)) ⌝ }
+    ensures heard { λ r. ⌜ TakesIn (now (text .entry)) (deskOf desk (now (line .entry)) (were flash sram usd)) (now (out .entry))
+        (deskOf (r .desk) (now (line .exit)) (are flash sram usd)) (now (out .exit)) ⌝ }
+{
+    let n = text.len();
+    let mut here = desk;
+    let mut going = true;
+    let mut i = 0;
+    while i < n {
+        let end = words::least(n, i + PIECE_CHARACTERS);
+        let need = can::ROOM * (here.kept + (end - i));
+        let place = make_room(here.end, need, going, to, out);
+        here.end = place.at;
+        going = place.going;
+        here = hear(here, &text[i..end], line, flash, sram, usd, out);
+        i = end;
+    }
+    let end = here.end;
+    here.end = 0;
+    Turned {
+        desk: here,
+        going: write_on(going, to, &out[..end]),
+    }
+}
+
+// Reads once, and takes in what came.
 fn turn(
     desk: Desk,
     from: i32,
@@ -87,14 +165,7 @@ fn turn(
             going: false,
         };
     }
-    let mut next = hear(desk, &input[..n], line, flash, sram, usd, out);
-    let end = next.end;
-    let going = io::write_all(to, &out[..end]);
-    next.end = 0;
-    Turned {
-        desk: next,
-        going: going,
-    }
+    take_in(desk, &input[..n], to, line, flash, sram, usd, out)
 }
 
 // How many reads may still be made: none where there was nothing to read.

@@ -1,59 +1,40 @@
--- What is read fits where it is heard, and what is heard is written.
+-- What was read is taken in; where nothing was, nothing is heard.
 use borrow.Author.Needs.{needs}
 use native.Mathlib.Omega.{arith}
-use mathlib.Core.Path.{refl, sym, _∙_}
-use lib.ListN.{take, length-take}
-use lib.Seq.{length-take-le}
+use mathlib.Core.Path.{refl}
 use mathlib.Core.List.{[]}
-use Rattle.words.specs.Over.{newer}
-use Rattle.words.proofs.Over.{over-none}
+use lib.ListN.{take, length-take}
 use Rattle.answers.specs.Desk.{hears}
 use Rattle.talk.proofs.turn.Statement.{statement}
 use Rattle.talk.proofs.turn.Tie as tie
 
-slice-aggregate-write-all : tie.Need-slice-aggregate-write-all
-slice-aggregate-write-all c =
-    let after-hear = c .before .before .before .before .before .before .before .before .before .before .before in
-    let k = after-hear .hear .kept .1 .1 .1 .1 .1 .1 .0 in
-    sym (length-take-le (after-hear .hear .result .end) (after-hear .hear .last .1 .1 .1 .1 .1 .1 .0)
-    (omega (arith, k, after-hear .hear .ensures .1 .0)))
-
--- where nothing was read, nothing was heard
 returns : tie.Need-returns
 unfolding hears
 returns c =
     let start = c .before .before .before .before .before .before .before .before .before .before .before in (
       start .pre .0,
-      (omega arith, record { text = []; few = omega arith; desk = refl; told = sym (over-none newer (start .args .out .now) 0) }),
+      (
+        omega arith,
+        record { text = []; few = omega arith; heard = record { parts = []; whole = refl; desk = refl; told = refl } },
+      ),
     )
 
 returns-2 : tie.Need-returns-2
 returns-2 c =
-    let after-hear = c .before .before .before .before .before .before .before .before .before .before .before .before in
-    let after-count = after-hear .before .before .before .before .before .before .before .before in
+    let after-take-in = c .before .before .before .before .before .before .before .before .before .before in
+    let after-count = after-take-in .before .before .before .before .before .before .before .before in
     let after-read = after-count .before .before .before in
-    let start = after-read .before .before .before .before .before .before .before in
-    let k = after-hear .hear .kept .1 .1 .1 .1 .1 .1 .0 in
-    let told = after-hear .hear .ensures .0 in (
-      record {
-        room = after-hear .hear .kept .1 .1 .0 ∙ (start .pre .0 .room);
-        kept = (after-hear .hear .ensures .1 .1 .0);
-        written = refl;
-        answers = omega (arith, k, start .pre .0 .answers);
-      },
+    let e = after-take-in .take-in .ensures in
+    let n = after-count .count .ensures in
+    let k = after-read .read .kept .1 .0 in
+    let l = length-take (after-count .count .result) (after-read .read .last .1 .0) in (
+      e .0,
       (
-        omega (
-          arith,
-          after-hear .hear .ensures .1 .1 .1,
-          after-count .count .ensures .0 .0,
-          after-count .count .ensures .0 .1,
-          after-read .read .kept .1 .0,
-        ),
+        omega (arith, e .1 .0, l, n .0 .0, n .0 .1, k),
         record {
           text = take (after-count .count .result) (after-read .read .last .1 .0);
-          few = simp length-take (omega (arith, after-count .count .ensures .0 .0, after-count .count .ensures .0 .1, after-read .read .kept .1 .0));
-          desk = told .state;
-          told = rw (start .pre .0 .written) at (told .text);
+          few = omega (arith, l, n .0 .0, n .0 .1, k);
+          heard = e .1 .1;
         },
       ),
     )
@@ -69,9 +50,6 @@ turn-spec =
     returns
     (λ c. search needs)
     (λ c. search needs)
-    (λ c κs. search needs)
-    (λ c. search needs)
-    slice-aggregate-write-all
     (λ c κs. search needs)
     (λ c. search needs)
     (λ c. search needs)
