@@ -68,13 +68,14 @@ passed s right rest n t h k g next e =
     }
 
 -- what is left to tell after bytes that were taken at once
-pub record Left (rest : List ℕ) (i n : ℕ) (next : Session) (m : Memories) (from : ℕ) (out : List ℕ) (whole : Told State) (at : ℕ) (before : List ℕ) : Type 0 where
+pub record Left (rest : List ℕ) (i n : ℕ) (next : Session) (m : Memories) (from : ℕ) (out : List ℕ)
+    (whole : Told State) (at : ℕ) (before : List ℕ) : Type 0 where
   pub within : i + n ≤ length rest
   pub fields : T (areFields (drop (i + n) rest))
   pub told : Continues (tells (map (Byte deskRoom) (L.fields (drop (i + n) rest))) (stateOf next m)) from out whole at before
 
-pub passed-on : (rest : List ℕ) (i n : ℕ) (s next : Session) (m : Memories) (right : Bool) {from at : ℕ} {out before : List ℕ} {whole : Told State} → i ≤ length rest
-    → proper m ≡ right → Passes s right (take (length rest - i) (drop i rest)) next n
+pub passed-on : (rest : List ℕ) (i n : ℕ) (s next : Session) (m : Memories) (right : Bool) {from at : ℕ} {out before : List ℕ} {whole : Told State}
+    → i ≤ length rest → proper m ≡ right → Passes s right (take (length rest - i) (drop i rest)) next n
     → Continues (tells (map (Byte deskRoom) (L.fields (drop i rest))) (stateOf s m)) from out whole at before
     → Left rest i n next m from out whole at before
 passed-on rest i n s next m right {from = from} {at = at} {out = out} {before = before} {whole = whole} h em p k =

@@ -84,7 +84,8 @@ module _ (s : Session) (text : List ℕ) (end count : ℕ) (new : List ℕ) (l :
     unfolding answer answerBy tells tell
     line-answered k = let p = first-line text end (l .first) in rw (p .kind, p .behind, only-gathered) refl
 
-    pub line-passed : (k : ℕ) → hears text (atLine s m k) ≡ behind (answered ∷ lineFeed ∷ []) (hears (drop (end + 1) text) (atLine (gathered brought s) m (suc k)))
+    pub line-passed : (k : ℕ) → hears text (atLine s m k)
+        ≡ behind (answered ∷ lineFeed ∷ []) (hears (drop (end + 1) text) (atLine (gathered brought s) m (suc k)))
     unfolding hears
     line-passed k =
         let p = first-line text end (l .first) in
@@ -136,7 +137,8 @@ module _ (first s : Session) (right : Bool) (text : List ℕ) (lines i : ℕ) (p
             let a = line-passed s (drop i text) end count new l m (rw e g) (k + lines) in
             let j : suc (k + lines) ≡ k + (lines + 1) = omega arith in
             p .told m e k
-            ∙ ap (λ (x : Told Desk). behind (nods lines) x) (a ∙ ap₂ (λ (n : ℕ) (b : List ℕ). behind (answered ∷ lineFeed ∷ []) (hears b (atLine next m n))) j (drop-drop (end + 1) i text))
+            ∙ ap (λ (x : Told Desk). behind (nods lines) x)
+            (a ∙ ap₂ (λ (n : ℕ) (b : List ℕ). behind (answered ∷ lineFeed ∷ []) (hears b (atLine next m n))) j (drop-drop (end + 1) i text))
             ∙ ap (λ (b : List ℕ). record { text = b; state = hears (drop (i + (end + 1)) text) (atLine next m (k + (lines + 1))) .state })
             (sym (append-assoc (nods lines) (answered ∷ lineFeed ∷ []) (hears (drop (i + (end + 1)) text) (atLine next m (k + (lines + 1))) .text))
             ∙ ap (λ (b : List ℕ). b ++ hears (drop (i + (end + 1)) text) (atLine next m (k + (lines + 1))) .text) (nods-more lines));

@@ -36,6 +36,12 @@ protect-frame-requires c κs =
     let h = counted (start after-of .args .expected) (expected after-of (c .enum-told4 .given .1)) in
     (omega arith, h .1, omega arith, omega arith)
 
+returns-4 : tie.Need-returns-4
+unfolding gathering unlessExtra decided
+returns-4 c =
+    let after-of = c .before .before .before in
+    rw (← after-of .of .ensures, c .before .enum-told4 .given .1) (c .protect-frame .ensures (start after-of .args .view))
+
 pub heard-spec : {M : Type 1} → statement M
 unfolding gathering unlessExtra decided
 heard-spec =
@@ -53,4 +59,4 @@ heard-spec =
     (λ c. rw (← c .before .before .before .of .ensures, c .before .enum-told .given .1) (c .command-frame .ensures))
     (λ c. rw (← c .before .before .before .of .ensures, c .before .enum-told2 .given .1) (c .write-frame .ensures))
     (λ c. rw (← c .before .before .before .of .ensures, c .before .enum-told3 .given .1) (c .erase-frame .ensures))
-    (λ c. rw (← c .before .before .before .of .ensures, c .before .enum-told4 .given .1) (c .protect-frame .ensures (start (c .before .before .before) .args .view))))
+    returns-4)

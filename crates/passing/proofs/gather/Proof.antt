@@ -45,7 +45,8 @@ brought : (c : tie.Else2 Inv-loop μ-loop)
     × (here c .loop .here .taken + found c .silent-line .result .count < here c .loop .here .expected)
     × (here c .loop .i + (found c .silent-line .result .end + 1) ≤ length (start c .args .text .now))
 brought c =
-    few-brought (start c .args .session) (here c .loop .here) (start c .args .right) (start c .args .text .now) (here c .loop .lines) (here c .loop .i) (here c .loop .inv .3) (here c .loop .inv .2)
+    few-brought (start c .args .session) (here c .loop .here) (start c .args .right) (start c .args .text .now)
+    (here c .loop .lines) (here c .loop .i) (here c .loop .inv .3) (here c .loop .inv .2)
     (found c .silent-line .result .end) (found c .silent-line .result .count) (found c .silent-line .last .1 .1 .1 .1 .0) (silent c)
 
 loop-holds : tie.Need-loop-holds Inv-loop μ-loop
