@@ -1,2 +1,3 @@
 pub mod Unless
+pub mod Made
 pub mod Good

@@ -41,8 +41,8 @@ use Rattle.boot.specs.declared.Session.{Session}
 use Rattle.theorems.specs.Failures.{reads}
 use Rattle.theorems.specs.Secrecy.{unlocks}
 use Rattle.command.proofs.Holds.{Holds, either, split}
+use Rattle.rules.proofs.Made.{summing-made}
 use Rattle.rules.proofs.Unless.{unless-locked}
-use Rattle.theorems.proofs.Made.{summing-made}
 
 -- ---- sessions inside no protected command
 
@@ -127,8 +127,8 @@ module _ (c : Carrier) where
 
   -- Firmware CRC
   summing-discreet : (a : Address) (x : ℕ) → Holds (Discreet c) (summing a x)
-  summing-discreet =
-      summing-made (Discreet c) refusal λ at n. record { holds = record { quiet = tt; harmless = tt; fixed = λ o. absurd o; calm = tt } }
+  summing-discreet a x =
+      summing-made (Discreet c) refusal a x λ at e. record { holds = record { quiet = tt; harmless = tt; fixed = λ o. absurd o; calm = tt } }
 
 -- ---- UART
 

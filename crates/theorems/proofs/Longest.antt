@@ -14,13 +14,13 @@ use Rattle.words.specs.Choice.{if_then_else_}
 use Rattle.words.specs.Over.{put}
 use Rattle.words.proofs.Tests.{both-left, both-right, holds-true}
 use Rattle.board.specs.Quantities.{countOf, lessOne}
-use Rattle.board.specs.declared.Place.{Place}
-use Rattle.board.specs.declared.Place.the-variants.{In, Nowhere}
+use Rattle.board.specs.declared.Region.{Region}
 use Rattle.board.specs.declared.Region.the-variants.{Flash, Sram, Usd}
 use Rattle.board.specs.declared.View.{View}
 use Rattle.board.specs.declared.Address.{Address}
 use Rattle.memories.specs.Memories.{Memories}
-use Rattle.command.specs.Decision.{answer, nack}
+use Rattle.memories.specs.declared.Change.the-variants.{Write}
+use Rattle.command.specs.Decision.{alter, nack}
 use Rattle.command.specs.Says.{says}
 use Rattle.command.specs.Progress.{stagedWith, short}
 use Rattle.command.specs.declared.Command.{Command}
@@ -35,8 +35,9 @@ use Rattle.command.specs.declared.Reply.the-variants.{Fixed, Data, Crc}
 use Rattle.command.specs.declared.Told.the-variants.{Silence, Ack, AckAck, Nack, AckNack, Commands, Version, DeviceId}
 use Rattle.command.specs.declared.Why.{Why}
 use Rattle.command.proofs.Holds.{Holds, either, split, judged-either}
-use Rattle.rules.specs.Rules.{readAt, reading, writeAt, writing, selectorOf, erasing, protecting, jumping, sumAt, summing}
+use Rattle.rules.specs.Rules.{afterWrite, selectorOf}
 use Rattle.rules.specs.declared.Selector.the-variants.{Listed, Special, Impossible}
+use Rattle.rules.proofs.Made.{reading-made, writing-made, erasing-made, protecting-made, jumping-made, summing-made}
 use Rattle.rules.proofs.Unless.{unless-either}
 use Rattle.uart.specs.Conversation as UC
 use Rattle.uart.specs.Steps.{stepOf, stepNo, expects}
@@ -112,48 +113,10 @@ module _ (n : ℕ) where
   refusal : (w : Why) → Holds (Goes n) (nack w)
   refusal w = record { holds = tt }
 
-  read-goes : (q : Place) (x : ℕ) → Holds (Goes n) (readAt q x)
-  unfolding readAt
-  read-goes (In r at) x = record { holds = tt }
-  read-goes Nowhere x = refusal _
-
-  reading-goes : (a : Address) (x : ℕ) → Holds (Goes n) (reading a x)
-  unfolding reading
-  reading-goes a x = either (Goes n) _ (read-goes _ x) (refusal _)
-
-  write-goes : (q : Place) (x : ℕ) → Holds (Goes n) (writeAt q x)
-  unfolding writeAt
-  write-goes (In Flash at) x = record { holds = tt }
-  write-goes (In Sram at) x = record { holds = tt }
-  write-goes (In Usd at) x = record { holds = tt }
-  write-goes Nowhere x = refusal _
-
-  writing-goes : (view : View) (a : Address) (x : ℕ) → Holds (Goes n) (writing view a x)
-  unfolding writing
-  writing-goes view a x = judged-either (Goes n) _ refusal (write-goes _ x)
-
-  erasing-goes : (view : View) (staged : List ℕ) (x : ℕ) → Holds (Goes n) (erasing view staged x)
-  unfolding erasing
-  erasing-goes view staged x = judged-either (Goes n) _ refusal (record { holds = tt })
-
-  protecting-goes : (staged : List ℕ) (x : ℕ) → Holds (Goes n) (protecting staged x)
-  unfolding protecting
-  protecting-goes staged x = judged-either (Goes n) _ refusal (record { holds = tt })
-
-  jumping-goes : (a : Address) → Holds (Goes n) (jumping a)
-  unfolding jumping
-  jumping-goes a = either (Goes n) _ (record { holds = tt }) (refusal _)
-
-  sum-goes : (q : Place) (x : ℕ) → Holds (Goes n) (sumAt q x)
-  unfolding sumAt
-  sum-goes (In Flash at) x = record { holds = tt }
-  sum-goes (In Sram at) x = refusal _
-  sum-goes (In Usd at) x = refusal _
-  sum-goes Nowhere x = refusal _
-
-  summing-goes : (a : Address) (x : ℕ) → Holds (Goes n) (summing a x)
-  unfolding summing
-  summing-goes a x = either (Goes n) _ (sum-goes _ _) (refusal _)
+  written-goes : (r : Region) (at x : ℕ) → Holds (Goes n) (alter Ack (Write r at x) (afterWrite r))
+  written-goes Flash at x = record { holds = tt }
+  written-goes Sram at x = record { holds = tt }
+  written-goes Usd at x = record { holds = tt }
 
   -- an address and its checksum
   addressed-goes : (go : Address → Decision) → ((a : Address) → Holds (Goes n) (go a)) → (bytes : List ℕ) → Holds (Goes n) (UC.addressed go bytes)
@@ -218,18 +181,18 @@ complete-goes : (s : US.Step) (e a : ℕ) (bytes : List ℕ) (view : View) → T
 unfolding UC.complete
 complete-goes US.Step.Idle e a bytes view x h = either (Goes _) _ (commanded-goes view _) (refusal _ _)
 complete-goes US.Step.ReadAddress e a bytes view x h = addressed-goes _ _ (kept-goes _ _ _ _ tt) bytes
-complete-goes US.Step.JumpAddress e a bytes view x h = addressed-goes _ _ (jumping-goes _) bytes
+complete-goes US.Step.JumpAddress e a bytes view x h = addressed-goes _ _ (λ z. jumping-made (Goes _) (refusal _) z (record { holds = tt })) bytes
 complete-goes US.Step.WriteAddress e a bytes view x h = addressed-goes _ _ (kept-goes _ _ _ _ tt) bytes
 complete-goes US.Step.CrcAddress e a bytes view x h = addressed-goes _ _ (kept-goes _ _ _ _ tt) bytes
-complete-goes US.Step.ReadLength e a bytes view x h = either (Goes _) _ (reading-goes _ _ _) (refusal _ _)
+complete-goes US.Step.ReadLength e a bytes view x h = either (Goes _) _ (reading-made (Goes _) (refusal _) _ _ (λ r at e. record { holds = tt })) (refusal _ _)
 complete-goes US.Step.WriteLength e a bytes view x h = awaits-goes US.Step.WriteData tt refl bytes (h x)
-complete-goes US.Step.WriteData e a bytes view x h = either (Goes _) _ (writing-goes _ view _ _) (refusal _ _)
+complete-goes US.Step.WriteData e a bytes view x h = either (Goes _) _ (writing-made (Goes _) (refusal _) view _ _ (λ r at e. written-goes _ r at _)) (refusal _ _)
 complete-goes US.Step.EraseSelector e a bytes view x h = selected-goes _
 complete-goes US.Step.SpecialCheck e a bytes view x h = either (Goes _) _ (judged-either (Goes _) _ (refusal _) (record { holds = tt })) (refusal _ _)
-complete-goes US.Step.EraseList e a bytes view x h = either (Goes _) _ (erasing-goes _ view bytes _) (refusal _ _)
+complete-goes US.Step.EraseList e a bytes view x h = either (Goes _) _ (erasing-made (Goes _) (refusal _) view bytes _ (λ t. record { holds = tt })) (refusal _ _)
 complete-goes US.Step.ProtectLength e a bytes view x h = awaits-goes US.Step.ProtectList tt refl bytes (h x)
-complete-goes US.Step.ProtectList e a bytes view x h = either (Goes _) _ (protecting-goes _ bytes _) (refusal _ _)
-complete-goes US.Step.CrcCount e a bytes view x h = either (Goes _) _ (summing-goes _ _ _) (refusal _ _)
+complete-goes US.Step.ProtectList e a bytes view x h = either (Goes _) _ (protecting-made (Goes _) (refusal _) bytes _ (λ t. record { holds = tt })) (refusal _ _)
+complete-goes US.Step.CrcCount e a bytes view x h = either (Goes _) _ (summing-made (Goes _) (refusal _) _ _ (λ at e. record { holds = tt })) (refusal _ _)
 
 -- ---- the session after a byte
 

@@ -8,10 +8,7 @@ use lib.Dec.{T, eqb, eqb→eq, eqb-refl}
 use lib.ListN.{getD}
 use Rattle.words.specs.Choice.{if_then_else_}
 use Rattle.board.specs.declared.Address.{Address}
-use Rattle.board.specs.declared.Place.{Place}
-use Rattle.board.specs.declared.Place.the-variants.{In, Nowhere}
 use Rattle.board.specs.declared.Region.{Region}
-use Rattle.board.specs.declared.Region.the-variants.{Flash, Sram, Usd}
 use Rattle.board.specs.declared.View.{View}
 use Rattle.memories.specs.declared.Change.the-variants.{Write, EraseAll, EraseSectors, ProtectOnly}
 use Rattle.command.specs.Commands.{code, uartCommands, canCommands, lookUp}
@@ -30,7 +27,7 @@ use Rattle.command.specs.declared.Told.the-variants.{Silence, Ack, AckAck, Nack
 use Rattle.command.specs.declared.Verdict.{Verdict}
 use Rattle.command.specs.declared.Verdict.the-variants.{Fine, No}
 use Rattle.command.specs.declared.Why.{Why}
-use Rattle.rules.specs.Rules.{readAt, reading, afterWrite, writeAt, writing, erasing, protecting, releasing, locking, unlocking, jumping, sumAt, summing}
+use Rattle.rules.specs.Rules.{afterWrite, writing, erasing, protecting, releasing, locking, unlocking, jumping}
 use Rattle.rules.specs.declared.Selector.{Selector}
 use Rattle.rules.specs.declared.Selector.the-variants.{Listed, Special, Impossible}
 use Rattle.uart.specs.Steps as U
@@ -47,6 +44,7 @@ use Rattle.carriers.specs.declared.Carrier.{Carrier}
 use Rattle.carriers.specs.declared.Carrier.the-variants.{Uart, Can}
 use Rattle.boot.specs.declared.Session.{Session}
 use Rattle.command.proofs.Holds.{Holds, either, split, judged-either}
+use Rattle.rules.proofs.Made.{reading-made, writing-made, erasing-made, protecting-made, jumping-made, summing-made}
 use Rattle.rules.proofs.Unless.{unless-either}
 use Rattle.theorems.proofs.InStep.{uart-step, can-step}
 
@@ -108,21 +106,9 @@ OnInput P Power s = Unit {0}
 OnInput P (Byte room b) s = T (on Uart s) → OnUart P (U.stepOf (s .step)) (progress s) b
 OnInput P (Framed room l) s = T (on Can s) → OnCan P (C.stepOf (s .step)) (frameIn l)
 
--- ---- Firmware CRC, and a command that is looked up
+-- ---- a command that is looked up
 
 module _ (P : Decision → Type 0) where
-  module _ (refusal : (w : Why) → Holds P (nack w)) (sum : (at n : ℕ) → Holds P (show (Crc at n))) where
-    sum-made : (q : Place) (n : ℕ) → Holds P (sumAt q n)
-    unfolding sumAt
-    sum-made (In Flash at) n = sum at n
-    sum-made (In Sram at) n = refusal _
-    sum-made (In Usd at) n = refusal _
-    sum-made Nowhere n = refusal _
-
-    pub summing-made : (a : Address) (x : ℕ) → Holds P (summing a x)
-    unfolding summing
-    summing-made a x = either P _ (sum-made _ _) (refusal _)
-
   looked : (go : Lookup → Decision) (n : ℕ) → ((k : Command) → n ≡ code k → Holds P (go (Known k))) → Holds P (go Unknown) → (ks : List Command)
       → Holds P (go (lookUp ks n))
   looked go n known unknown [] = unknown
@@ -142,36 +128,17 @@ module _ (P : Decision → Type 0) (b : Parts P) where
 
   -- ---- the rules
 
-  module _ (read : (r : Region) (at x : ℕ) → Holds P (show (Data r at x))) where
-    read-made : (q : Place) (x : ℕ) → Holds P (readAt q x)
-    unfolding readAt
-    read-made (In r at) x = read r at x
-    read-made Nowhere x = refusal _
+  written-made : (view : View) (a : Address) (x : ℕ) → Holds P (writing view a x)
+  written-made view a x = writing-made P refusal view a x (λ r at e. b .written r at x)
 
-    reading-made : (a : Address) (x : ℕ) → Holds P (reading a x)
-    unfolding reading
-    reading-made a x = choice _ (read-made _ x) (refusal _)
+  erased-made : (view : View) (staged : List ℕ) (x : ℕ) → Holds P (erasing view staged x)
+  erased-made view staged x = erasing-made P refusal view staged x (λ t. b .erased x)
 
-  write-made : (q : Place) (x : ℕ) → Holds P (writeAt q x)
-  unfolding writeAt
-  write-made (In r at) x = b .written r at x
-  write-made Nowhere x = refusal _
+  protected-made : (staged : List ℕ) (x : ℕ) → Holds P (protecting staged x)
+  protected-made staged x = protecting-made P refusal staged x (λ t. b .protected x)
 
-  writing-made : (view : View) (a : Address) (x : ℕ) → Holds P (writing view a x)
-  unfolding writing
-  writing-made view a x = judged-either P _ refusal (write-made _ x)
-
-  erasing-made : (view : View) (staged : List ℕ) (x : ℕ) → Holds P (erasing view staged x)
-  unfolding erasing
-  erasing-made view staged x = judged-either P _ refusal (b .erased x)
-
-  protecting-made : (staged : List ℕ) (x : ℕ) → Holds P (protecting staged x)
-  unfolding protecting
-  protecting-made staged x = judged-either P _ refusal (b .protected x)
-
-  jumping-made : (a : Address) → Holds P (jumping a)
-  unfolding jumping
-  jumping-made a = choice _ (b .told tt) (refusal _)
+  jumped-made : (a : Address) → Holds P (jumping a)
+  jumped-made a = jumping-made P refusal a (b .told tt)
 
   -- ---- UART
 
@@ -219,19 +186,19 @@ module _ (P : Decision → Type 0) (b : Parts P) where
       (λ c. uart-commanded view _ λ e. f .unlocked (record { last = record { step = refl; long = t }; complemented = c; command = e }))
       (λ c. refusal _)
   uart-complete US.Step.ReadAddress p view n t f = uart-addressed _ (uart-kept _ _ _) _
-  uart-complete US.Step.JumpAddress p view n t f = uart-addressed _ jumping-made _
+  uart-complete US.Step.JumpAddress p view n t f = uart-addressed _ jumped-made _
   uart-complete US.Step.WriteAddress p view n t f = uart-addressed _ (uart-kept _ _ _) _
   uart-complete US.Step.CrcAddress p view n t f = uart-addressed _ (uart-kept _ _ _) _
-  uart-complete US.Step.ReadLength p view n t f = choice _ (reading-made (f .read (record { step = refl; long = t })) _ _) (refusal _)
+  uart-complete US.Step.ReadLength p view n t f = choice _ (reading-made P refusal _ _ (λ r at e. f .read (record { step = refl; long = t }) r at _)) (refusal _)
   uart-complete US.Step.WriteLength p view n t f = b .told tt
-  uart-complete US.Step.WriteData p view n t f = choice _ (writing-made view _ _) (refusal _)
+  uart-complete US.Step.WriteData p view n t f = choice _ (written-made view _ _) (refusal _)
   uart-complete US.Step.EraseSelector p view n t f = uart-selected _
   uart-complete US.Step.SpecialCheck p view n t f = choice _ (judged-either P _ refusal (b .cleared)) (refusal _)
-  uart-complete US.Step.EraseList p view n t f = choice _ (erasing-made view _ _) (refusal _)
+  uart-complete US.Step.EraseList p view n t f = choice _ (erased-made view _ _) (refusal _)
   uart-complete US.Step.ProtectLength p view n t f = b .told tt
-  uart-complete US.Step.ProtectList p view n t f = choice _ (protecting-made _ _) (refusal _)
+  uart-complete US.Step.ProtectList p view n t f = choice _ (protected-made _ _) (refusal _)
   uart-complete US.Step.CrcCount p view n t f =
-      choice _ (summing-made P refusal (f .summed (record { step = refl; long = t })) _ _) (refusal _)
+      choice _ (summing-made P refusal _ _ (λ at e. f .summed (record { step = refl; long = t }) at _)) (refusal _)
 
   uart-heard : (s : US.Step) (p : Progress) (view : View) (n : ℕ) → OnUart P s p n → Holds P (UC.heard s p view n)
   unfolding UC.heard
@@ -256,15 +223,15 @@ module _ (P : Decision → Type 0) (b : Parts P) where
     can-obeyed GetCommands e = b .told tt
     can-obeyed GetVersion e = b .told tt
     can-obeyed GetDeviceId e = b .told tt
-    can-obeyed ReadMemory e = reading-made (f .read (record { idle = refl; command = e })) _ _
-    can-obeyed Jump e = jumping-made _
+    can-obeyed ReadMemory e = reading-made P refusal _ _ (λ r at q. f .read (record { idle = refl; command = e }) r at _)
+    can-obeyed Jump e = jumped-made _
     can-obeyed WriteMemory e = judged-either P _ refusal (b .told tt)
     can-obeyed Erase e = can-selected view _ (f .halved (record { idle = refl; command = e }))
     can-obeyed ProgramProtect e = b .told tt
     can-obeyed ProgramUnprotect e = b .released
     can-obeyed AccessProtect e = b .locked
     can-obeyed AccessUnprotect e = f .unlocked (record { idle = refl; command = e })
-    can-obeyed FirmwareCrc e = summing-made P refusal (f .summed (record { idle = refl; command = e })) _ _
+    can-obeyed FirmwareCrc e = summing-made P refusal _ _ (λ at q. f .summed (record { idle = refl; command = e }) at _)
     can-obeyed ResetDevice e = b .told tt
     can-obeyed Speed e = choice _ (b .told tt) (refusal _)
 
@@ -284,9 +251,9 @@ module _ (P : Decision → Type 0) (b : Parts P) where
   can-heard : (s : CS.Step) (p : Progress) (view : View) (g : Frame) → OnCan P s g → Holds P (CC.heard s p view g)
   unfolding CC.heard CC.decided
   can-heard CS.Step.Idle p view g f = can-commanded view _ g f
-  can-heard CS.Step.WriteData p view g f = can-gathering _ _ _ (writing-made view _ _)
-  can-heard CS.Step.EraseList p view g f = can-gathering _ _ _ (can-unless _ _ (erasing-made view _ _))
-  can-heard CS.Step.ProtectList p view g f = can-gathering _ _ _ (can-unless _ _ (protecting-made _ _))
+  can-heard CS.Step.WriteData p view g f = can-gathering _ _ _ (written-made view _ _)
+  can-heard CS.Step.EraseList p view g f = can-gathering _ _ _ (can-unless _ _ (erased-made view _ _))
+  can-heard CS.Step.ProtectList p view g f = can-gathering _ _ _ (can-unless _ _ (protected-made _ _))
 
   -- ---- any input
 

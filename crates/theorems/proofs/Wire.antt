@@ -39,11 +39,12 @@ use Rattle.boot.specs.declared.Cause.{Cause}
 use Rattle.boot.specs.declared.Cause.the-variants.{Accepted, WrongMemory, ShortReply, BadFrame, UnsoundSession, BoardRunning}
 use Rattle.boot.specs.declared.Session.{Session}
 use Rattle.command.proofs.Holds.{Holds, either, split}
+use Rattle.rules.proofs.Made.{summing-made}
 use Rattle.rules.proofs.Unless.{unless-either}
 use Rattle.theorems.specs.Secrecy.{inUart, inCan, sums, isSum, beginsWithAck, StruckExactly}
 use Rattle.theorems.specs.Failures.{acks, refuses, isFrameOf, isOne, acked, isErase, nacked, inEraseList, inProtect, sentWith, OnTheWire}
 use Rattle.theorems.proofs.InStep.{step-on, byte-at, frame-at, expects-at, last-taken, doneBy, isCall, accepted-sound}
-use Rattle.theorems.proofs.Made.{common, Parts, OnInput, summing-made, decide-made, last-step, under-idle}
+use Rattle.theorems.proofs.Made.{common, Parts, OnInput, decide-made, last-step, under-idle}
 
 -- ---- number and reply
 
@@ -163,7 +164,7 @@ refusal : (w : Why) → Holds Sums (nack w)
 refusal w = record { holds = tt }
 
 summing-sums : (a : Address) (x : ℕ) → Holds Sums (summing a x)
-summing-sums = summing-made Sums refusal (λ at n. record { holds = tt })
+summing-sums a x = summing-made Sums refusal a x (λ at e. record { holds = tt })
 
 uart-sums : (p : Progress) (view : View) (b : ℕ) → T (not (short p (b ∷ []))) → Holds Sums (UC.heard US.Step.CrcCount p view b)
 unfolding UC.heard UC.complete
