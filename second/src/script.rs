@@ -16,7 +16,7 @@ use crate::session::{Session, Step};
 pub use crate::dice;
 
 /// How many lines are tried, while there is something to reach, for the one that reaches the rarest.
-const TRIES: usize = 32;
+const TRIES: usize = 40;
 
 /// Characters that lines have, and some that they have not; LF ends a line and is not among them.
 const CHARACTERS: &[u8] = b"UCP 09AF/:@G`gau\t\r\0\x0B\x0C\x1F\x7F\x80\xD5\xFF";
@@ -119,7 +119,7 @@ impl Host {
     /// A line that continues what a board is at, now and then spoilt.
     fn fitting(&mut self, board: &Board, step: Option<Step>) -> Vec<u8> {
         let dice = &mut self.dice;
-        let spoilt = dice.once_in(8);
+        let spoilt = dice.once_in(11);
         let session = &board.session;
         let known = Known { locked: protection_is_on(&board.store.usd), recent: board.recent };
         match step {
