@@ -1,3 +1,4 @@
+// What an input decides: a connected session hears its carrier, another one only the call to connect.
 ghost use mathlib.Core.Path.{_≡_};
 ghost use mathlib.Core.List.{[], _∷_};
 ghost use Prim.Native.Nat.{_≤_, _<_};
@@ -41,7 +42,7 @@ impl Session {
     {
         let here = self.on(Carrier::Uart);
         if here {
-            uart_deciding::heard(
+            uart_code::heard(
                 self.step,
                 self.taken,
                 self.expected,
@@ -68,7 +69,7 @@ impl Session {
     {
         let here = self.on(Carrier::Can);
         if here {
-            can_deciding::heard(
+            can_code::heard(
                 self.step,
                 self.taken,
                 self.expected,

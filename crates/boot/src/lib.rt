@@ -1,3 +1,4 @@
+// The calls of the board: its session, the causes of a refusal, and what a call hands back.
 pub mod decide;
 pub mod held;
 pub mod steps;

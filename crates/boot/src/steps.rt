@@ -1,3 +1,4 @@
+// The sessions that may follow a session, and whether one is sound.
 ghost use mathlib.Core.Path.{_≡_};
 ghost use mathlib.Core.List.{[], _∷_};
 ghost use Prim.Native.Nat.{_<_, _≤_};

@@ -1,3 +1,4 @@
+// The two calls that take input: refused for the first cause that holds, or decided, said and carried out.
 ghost use mathlib.Core.Path.{_≡_};
 ghost use mathlib.Core.Bool.{true};
 ghost use lib.Dec.{leb};
@@ -141,7 +142,7 @@ impl Session {
         let reply = decision.reply;
         let change = decision.change;
         let length = reply::in_bytes::say(reply, flash, sram, usd, buffer);
-        effects::carry_out(change, &taken.staged, flash, sram, usd);
+        memories_code::carry_out(change, &taken.staged, flash, sram, usd);
         self.accepted(Carrier::Uart, taken, decision, length)
     }
 
@@ -169,7 +170,7 @@ impl Session {
         let reply = decision.reply;
         let change = decision.change;
         let length = reply::in_frames::say(reply, self.bears(id), flash, sram, usd, buffer);
-        effects::carry_out(change, &taken.staged, flash, sram, usd);
+        memories_code::carry_out(change, &taken.staged, flash, sram, usd);
         self.accepted(Carrier::Can, taken, decision, length)
     }
 }

@@ -1,3 +1,4 @@
+// The CAN conversation: its steps, the room for its replies, the ID that they bear, and how frames are gathered.
 pub mod held;
 
 ghost use mathlib.Core.Path.{_≡_};

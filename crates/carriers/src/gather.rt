@@ -1,3 +1,4 @@
+// Takes bytes in: each is put at index taken among the staged ones.
 ghost use mathlib.Core.Path.{_≡_};
 ghost use Prim.Native.Nat.{_+_, _<_, _≤_};
 ghost use lib.ListN.{length, take};

@@ -1,3 +1,4 @@
+// The carriers, which steps each has, and what these may expect.
 pub mod gather;
 pub mod held;
 

@@ -1,3 +1,4 @@
+// Which number asks for which command.
 ghost use mathlib.Core.Path.{_≡_};
 ghost use Rattle.command.specs.Commands.{canCommands, lookUp};
 use crate::Command;

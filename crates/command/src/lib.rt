@@ -1,3 +1,4 @@
+// Commands, replies, the reasons of a NACK, and decisions.
 pub mod code;
 pub mod held;
 pub mod protected;

@@ -1,3 +1,4 @@
+// Which commands are protected.
 ghost use mathlib.Core.Path.{_≡_};
 ghost use Rattle.command.specs.Commands.{protected};
 use crate::Command;

@@ -3,5 +3,5 @@ use libc::STDIN_FILENO;
 use libc::STDOUT_FILENO;
 
 fn main() {
-    talk::run(STDIN_FILENO, STDOUT_FILENO);
+    desk_loop::run(STDIN_FILENO, STDOUT_FILENO);
 }

@@ -7,7 +7,7 @@ use lib.Dec.{T, eqb→eq}
 use lib.ListN.{length}
 use Rattle.words.specs.Choice.{if_then_else_}
 use Rattle.boot.specs.Session.{sound}
-use Rattle.lent.specs.Sessions.{sessionLength, holdsSession, heldIn, noSession, sessionIn}
+use Rattle.session_bytes.specs.Sessions.{sessionLength, holdsSession, heldIn, noSession, sessionIn}
 
 -- a sound session is held by a slice of its length
 pub sound-length : (l : List ℕ) → T (sound (sessionIn l)) → length l ≡ sessionLength

@@ -19,8 +19,8 @@ use Rattle.boot.specs.declared.Cause.the-variants.{Accepted, WrongMemory, Short
 use Rattle.boot.specs.declared.Session.{Session}
 use Rattle.boot.specs.declared.Taken.{Taken}
 use Rattle.boot.proofs.Causes.{accepted-clear}
-use Rattle.lent.specs.Sessions.{sessionLength, sessionBytes, sessionIn}
-use Rattle.lent.specs.Promise.{HandsOn}
+use Rattle.session_bytes.specs.Sessions.{sessionLength, sessionBytes, sessionIn}
+use Rattle.session_bytes.specs.Promise.{HandsOn}
 use Rattle.exports.specs.Promise.{Takes}
 use Rattle.exports.proofs.Sessions.{sound-length}
 

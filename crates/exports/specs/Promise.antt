@@ -10,7 +10,7 @@ use Rattle.boot.specs.Promise.{Given, left, outcome, Took}
 use Rattle.boot.specs.declared.Cause.{Cause}
 use Rattle.boot.specs.declared.Cause.the-variants.{Accepted, UnsoundSession}
 use Rattle.boot.specs.declared.Session.{Session}
-use Rattle.lent.specs.Sessions.{sessionBytes, holdsSession, sessionIn}
+use Rattle.session_bytes.specs.Sessions.{sessionBytes, holdsSession, sessionIn}
 
 -- the slice of a session after a call: the next session where it was accepted, and else what was lent
 abbrev pub handedOn : Cause → Session → List ℕ → List ℕ

@@ -1,7 +1,7 @@
 // The calls of the board for programs in Rust and C, over slices of bytes that the caller lends.
 ghost use Rattle.memories.specs.Lent.{were, are};
 ghost use Rattle.boot.specs.Promise.{givenByte, givenFrame};
-ghost use Rattle.lent.specs.Sessions.{sessionIn};
+ghost use Rattle.session_bytes.specs.Sessions.{sessionIn};
 ghost use Rattle.exports.specs.Promise.{PowersOn, Takes};
 use boot::Session;
 
@@ -10,11 +10,11 @@ use boot::Session;
 pub extern "C" fn oilthicket_power_on(session: &mut [u8]) -> u8
     ensures { λ r. ⌜ PowersOn (now (session .entry)) r (now (session .exit)) ⌝ }
 {
-    if session.len() != lent::LENGTH {
-        return lent::UNSOUND_SESSION;
+    if session.len() != session_bytes::LENGTH {
+        return session_bytes::UNSOUND_SESSION;
     }
-    lent::write(Session::power_on(), session);
-    lent::ACCEPTED
+    session_bytes::write(Session::power_on(), session);
+    session_bytes::ACCEPTED
 }
 
 // Takes one UART byte, with the session, the memories and the reply buffer that are lent.
@@ -31,9 +31,9 @@ pub extern "C" fn oilthicket_take_byte(
     ensures { λ r. ⌜ Takes (givenByte (sessionIn (now (session .entry))) byte (were flash sram usd) (now (buffer .entry)))
         (now (session .entry)) r (now (length .exit)) (now (session .exit)) (are flash sram usd) (now (buffer .exit)) ⌝ }
 {
-    let taken = lent::read(session).take_byte(byte, flash, sram, usd, buffer);
+    let taken = session_bytes::read(session).take_byte(byte, flash, sram, usd, buffer);
     *length = taken.length;
-    lent::hand_on(taken, session)
+    session_bytes::hand_on(taken, session)
 }
 
 // Takes one CAN frame, with the session, the memories and the reply buffer that are lent.
@@ -50,7 +50,7 @@ pub extern "C" fn oilthicket_take_frame(
     ensures { λ r. ⌜ Takes (givenFrame (sessionIn (now (session .entry))) (now (frame .entry)) (were flash sram usd) (now (buffer .entry)))
         (now (session .entry)) r (now (length .exit)) (now (session .exit)) (are flash sram usd) (now (buffer .exit)) ⌝ }
 {
-    let taken = lent::read(session).take_frame(frame, flash, sram, usd, buffer);
+    let taken = session_bytes::read(session).take_frame(frame, flash, sram, usd, buffer);
     *length = taken.length;
-    lent::hand_on(taken, session)
+    session_bytes::hand_on(taken, session)
 }

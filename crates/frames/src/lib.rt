@@ -1,3 +1,4 @@
+// CAN frames: what is one, and what it carries.
 pub mod put;
 
 ghost use mathlib.Core.Path.{_≡_};

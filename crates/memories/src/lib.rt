@@ -1,3 +1,4 @@
+// The changes of the memories, which specs/ says byte by byte, and the staged bytes that tell the rest of one.
 pub mod held;
 
 ghost use mathlib.Core.Path.{_≡_};

@@ -1,3 +1,4 @@
+// Writes a reply as UART sends it.
 ghost use Prim.Native.Nat.{_≤_};
 ghost use lib.Dec.{T};
 ghost use lib.ListN.{length};

@@ -1,3 +1,4 @@
+// Writes a reply as CAN sends it.
 ghost use mathlib.Core.Path.{_≡_};
 ghost use Prim.Native.Nat.{_≤_, _<_};
 ghost use lib.Dec.{T};

@@ -1,3 +1,4 @@
+// The rules of the commands, which specs/ says; here is what an erase may ask for.
 pub mod held;
 
 use board::LessOne;

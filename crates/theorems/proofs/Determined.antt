@@ -3,7 +3,7 @@ use mathlib.Core.Path.{_≡_, sym, _∙_}
 use mathlib.Core.List.{List}
 use Prim.Native.Nat.{ℕ}
 use Rattle.boot.specs.Promise.{Given, Left, givenByte, givenFrame, Took}
-use Rattle.lent.specs.Sessions.{sessionIn}
+use Rattle.session_bytes.specs.Sessions.{sessionIn}
 use Rattle.theorems.specs.Determined.{Powered, Handed, Powers, Hands, Determined}
 
 took-once : (g : Given) (l k : Left) → Took g l → Took g k → l ≡ k

@@ -5,7 +5,7 @@ use mathlib.Core.List.{List}
 use Rattle.memories.specs.Memories.{Memories}
 use Rattle.boot.specs.Promise.{PoweredOn, Given, Left, givenByte, givenFrame, Took}
 use Rattle.boot.specs.declared.Session.{Session}
-use Rattle.lent.specs.Sessions.{sessionIn}
+use Rattle.session_bytes.specs.Sessions.{sessionIn}
 use Rattle.exports.specs.Promise.{PowersOn, Takes}
 
 -- what the exported power on leaves: its number, and the session's slice

@@ -1,3 +1,4 @@
+// The UART conversation: its steps, and the room for its replies.
 pub mod held;
 
 ghost use mathlib.Core.Path.{_≡_};

@@ -12,7 +12,7 @@ use std::process::Command;
 const TABLE: &str = include_str!("../../../expected/files.md");
 
 /// Where the files are stored.
-const STORED: &str = concat!(env!("CARGO_MANIFEST_DIR"), "/../crates/images/data");
+const STORED: &str = concat!(env!("CARGO_MANIFEST_DIR"), "/../crates/image_stored/data");
 
 /// The bytes of an image, and what one holds before.
 const IMAGE_BYTES: usize = 32_768;

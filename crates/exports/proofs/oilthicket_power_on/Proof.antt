@@ -2,7 +2,7 @@
 use borrow.Author.Needs.{needs}
 use mathlib.Core.Path.{ap, _∙_}
 use borrow.Author.Tests.{eq-eqb, ne-eqb}
-use Rattle.lent.specs.Sessions.{sessionBytes}
+use Rattle.session_bytes.specs.Sessions.{sessionBytes}
 use Rattle.exports.proofs.oilthicket_power_on.Statement.{statement}
 use Rattle.exports.proofs.oilthicket_power_on.Tie as tie
 

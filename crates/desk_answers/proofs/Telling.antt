@@ -1,0 +1,200 @@
+-- What a call left, as it is told: its reply, and the state after it.
+use mathlib.Core.Path.{_≡_, refl, sym, ap, _∙_}
+use mathlib.Core.Bool.{Bool, true, false}
+use mathlib.Core.List.{List, [], _∷_, _++_, map, append-nil}
+use Prim.Native.Nat.{ℕ, _+_, _*_, _%_, _≤_, _<_}
+use native.Mathlib.Omega.{arith}
+use denote.Enum.Declared.{tagOf}
+use types.Run.{OneOf, miss}
+use lib.ListN.{length, getD, set, take, drop, length-append, length-drop}
+use lib.Seq.{take-append-seam}
+use Rattle.words.specs.Over.{put, newer}
+use Rattle.words.proofs.Over.{over-none, put-one, put-then}
+use Rattle.words.specs.Choice.{if_then_else_}
+use Rattle.memories.specs.Memories.{Memories}
+use Rattle.memories.specs.Effects.{effect}
+use Rattle.command.specs.Says.{says}
+use Rattle.frames.specs.Frames.{classic, frameBytes, frameIn}
+use Rattle.frames.proofs.Cutting.{framed-whole}
+use Rattle.boot.specs.Session.{after}
+use Rattle.boot.specs.Causes.{accepts}
+use Rattle.boot.specs.Calls.{State, powered, Input, Power, Byte, Framed, commandsOf, bears, viewIn, causeFor, decide, sent, perform, refused, call}
+use Rattle.boot.specs.Promise.{Given, Left, left, givenByte, stateOf, outcome, Took}
+use Rattle.boot.specs.declared.Session.{Session}
+use Rattle.boot.specs.declared.Taken.{Taken}
+use Rattle.words.specs.Hex.{space}
+use Rattle.desk_lines.specs.Digits.{byteIn}
+use Rattle.desk_lines.specs.Lines.{lineFeed, fields}
+use Rattle.desk_print.specs.Digits.{decimal}
+use Rattle.desk_answers.specs.Told.{Told, quiet, _then_}
+use Rattle.desk_print.specs.Prints.{spelled}
+use Rattle.desk_answers.specs.Answers.{answered, notUnderstood, deskRoom, spelledFor, tell, tells, callsOf, obeyed, notice, answerBy}
+use Rattle.desk_answers.specs.Promise.{Tells, Continues}
+use Rattle.desk_lines.specs.declared.Kind.{Kind}
+use Rattle.desk_lines.specs.declared.Kind.the-variants.{Bytes, Frame, PowerOn, Other}
+use Rattle.desk_lines.proofs.Kind.{the-type}
+use Rattle.desk_print.proofs.Printing.{length-spelled}
+use Rattle.desk_lines.proofs.Lines.{field-first}
+
+module _ (g : Given) (l : Left) (t : Took g l) where
+  -- a reply is no longer than the room lent for it
+  pub took-fits : length (l .buffer) ≡ length (g .buffer) → l .result .length ≤ length (g .buffer)
+  took-fits e =
+      let r = outcome g .reply in
+      let n = t .count in
+      let k = sym (ap length (t .buffer)) ∙ e in
+      let a = length-append r (drop (length r) (g .buffer)) in
+      let d = length-drop (length r) (g .buffer) in
+      omega arith
+
+  -- it stands at the front of the room
+  pub took-reply : take (l .result .length) (l .buffer) ≡ outcome g .reply
+  took-reply = rw (t .count, t .buffer) (take-append-seam (outcome g .reply) (drop (length (outcome g .reply)) (g .buffer)))
+
+-- an input was taken, and its reply printed
+module _ (input : ℕ → Input) (s : Session) (m : Memories) (lent : List ℕ) (room : length lent ≡ deskRoom) where
+  abbrev pub given : Given
+  given = record { input = input (length lent); state = stateOf s m; buffer = lent }
+
+  pub input-told : (r : Taken) (n : Memories) (buffer : List ℕ) → Took given (left r n buffer) → (at end : ℕ) (out out' : List ℕ)
+      → end ≡ at + length (spelledFor (input (length lent)) (take (r .length) buffer))
+      → out' ≡ put out at (spelledFor (input (length lent)) (take (r .length) buffer))
+      → Tells (tell (input deskRoom) (stateOf s m)) at out end out' (stateOf (r .session) n)
+  unfolding outcome tell
+  input-told r n buffer t at end out out' e w = record {
+    end = e
+        ∙ ap (λ (b : List ℕ). at + length (spelledFor (input (length lent)) b)) (took-reply given (left r n buffer) t)
+        ∙ ap (λ (k : ℕ). at + length (spelledFor (input k) (call (input k) (stateOf s m) .reply))) room;
+    text = w
+        ∙ ap (λ (b : List ℕ). put out at (spelledFor (input (length lent)) b)) (took-reply given (left r n buffer) t)
+        ∙ ap (λ (k : ℕ). put out at (spelledFor (input k) (call (input k) (stateOf s m) .reply))) room;
+    state = left-state ∙ ap (λ (k : ℕ). call (input k) (stateOf s m) .state) room;
+  }
+    where
+      left-state : stateOf (r .session) n ≡ call (input (length lent)) (stateOf s m) .state
+      left-state = λ i. record {
+        session = t .session i;
+        memories = record { flash = t .flash i; sram = t .sram i; usd = t .usd i };
+      }
+
+-- a byte was taken, and its reply printed in three characters each
+pub byte-told : (s : Session) (b : ℕ) (m : Memories) (lent : List ℕ) → length lent ≡ deskRoom
+    → (r : Taken) (n : Memories) (buffer : List ℕ) → Took (givenByte s b m lent) (left r n buffer)
+    → (at end : ℕ) (out out' : List ℕ) → end ≡ at + r .length * 3 → out' ≡ put out at (spelled (take (r .length) buffer))
+    → Tells (tell (Byte deskRoom b) (stateOf s m)) at out end out' (stateOf (r .session) n)
+byte-told s b m lent room r n buffer t at end out out' e w =
+    let c = ap length (took-reply (givenByte s b m lent) (left r n buffer) t) ∙ sym (t .count) in
+    let k = length-spelled (take (r .length) buffer) in
+    input-told (λ (k : ℕ). Byte k b) s m lent room r n buffer t at end out out' (omega arith) w
+
+-- the reply to a frame is whole frames
+pub frame-whole : (room : ℕ) (f : List ℕ) (p : State) → length (call (Framed room f) p .reply) % frameBytes classic ≡ 0
+unfolding call perform sent
+frame-whole room f p = by-cause (accepts (causeFor (Framed room f) p))
+  where
+    by-cause : (a : Bool)
+        → length ((if a then perform (Framed room f) p (decide (Framed room f) (p .session) (viewIn p)) else refused (causeFor (Framed room f) p) p) .reply) % frameBytes classic ≡ 0
+    by-cause true = framed-whole (bears (p .session) (frameIn f .id)) (says (commandsOf (Framed room f)) (decide (Framed room f) (p .session) (viewIn p) .reply) (p .memories))
+    by-cause false = refl
+
+-- one call that is told is all that is
+pub one-call : (i : Input) (p : State) (at end : ℕ) (out out' : List ℕ) (q : State) → Tells (tell i p) at out end out' q → Tells (tells (i ∷ []) p) at out end out' q
+unfolding tells
+one-call i p at end out out' q h = record {
+  end = h .end ∙ ap (λ (t : List ℕ). at + length t) (sym (append-nil (tell i p .text)));
+  text = h .text ∙ ap (λ (t : List ℕ). put out at t) (sym (append-nil (tell i p .text)));
+  state = h .state;
+}
+
+-- before anything is told, the whole is left
+pub all-left : {A : Type 0} (t : Told A) (at : ℕ) (out : List ℕ) → Continues t at out t at out
+all-left t at out = record { end = refl; text = refl; state = refl }
+
+-- what is left of what is left
+pub left-of-left : {A : Type 0} {a b c : Told A} {from mid at : ℕ} {out between before : List ℕ}
+    → Continues a from out b mid between → Continues b mid between c at before → Continues a from out c at before
+left-of-left k h = record { end = k .end ∙ h .end; text = k .text ∙ h .text; state = k .state ∙ h .state }
+
+-- a text stands before what is left
+pub text-told : {A : Type 0} (t : Told A) (l : List ℕ) (from to : ℕ) (out : List ℕ) → to ≡ from + length l
+    → Continues t to (put out from l) (record { text = l ++ t .text; state = t .state }) from out
+text-told t l from to out e = record {
+  end = let a = length-append l (t .text) in omega arith;
+  text = put-then out from to l (t .text) e;
+  state = refl;
+}
+
+-- one thing is told, and what was to be told after it is left
+pub one-told : {A B : Type 0} (t : Told A) (f : A → Told B) {from to at : ℕ} {out out' before : List ℕ} {a : A} {whole : Told B}
+    → Continues (t then f) from out whole at before → Tells t from out to out' a → Continues (f a) to out' whole at before
+one-told {B = B} t f {from = from} {to = to} {out = out} {out' = out'} {a = a} k h = record {
+  end = sums ∙ k .end;
+  text = ap (λ (x : Told B). put out' to (x .text)) (ap f (h .state)) ∙ ap (λ (o : List ℕ). put o to (f (t .state) .text)) (h .text) ∙ put-then out from to (t .text) (f (t .state) .text) (h .end) ∙ k .text;
+  state = ap (λ (x : Told B). x .state) (ap f (h .state)) ∙ k .state;
+}
+  where
+    sums : to + length (f a .text) ≡ from + length (t .text ++ f (t .state) .text)
+    sums =
+        let e = ap (λ (x : Told B). length (x .text)) (ap f (h .state)) in
+        let l = length-append (t .text) (f (t .state) .text) in
+        let g = h .end in
+        omega arith
+
+-- nothing is left, and the whole is told
+pub none-left : {A : Type 0} (a : A) {from at : ℕ} {out before : List ℕ} {whole : Told A}
+    → Continues (quiet a) from out whole at before → Tells whole at before from out a
+none-left a {from = from} {out = out} k = record {
+  end = omega (arith, k .end);
+  text = sym (over-none newer out from) ∙ k .text;
+  state = k .state;
+}
+
+-- the calls of fields from a place on: that of the first, and then those of the others
+pub tells-fields : (s : List ℕ) (i : ℕ) (p : State) → i + 2 < length s
+    → tells (map (Byte deskRoom) (fields (drop i s))) p
+    ≡ (tell (Byte deskRoom (byteIn (getD s (i + 1) 0) (getD s (i + 2) 0))) p then tells (map (Byte deskRoom) (fields (drop (i + 3) s))))
+unfolding tells
+tells-fields s i p h = rw (field-first s i h) refl
+
+-- ---- answers
+
+-- a character stored behind a text is put behind it
+put-behind : (m : List ℕ) (at end : ℕ) (t : List ℕ) (d : ℕ) → end ≡ at + length t → set (put m at t) end d ≡ put m at (t ++ d ∷ [])
+put-behind m at end t d e = sym (put-one (put m at t) end d) ∙ put-then m at end t (d ∷ []) e
+
+-- replies that stand between `>` and LF are an answer
+pub obeyed-told : (t : Told State) (at end : ℕ) (m out' : List ℕ) (p : State)
+    → Tells t (at + 1) (set m at answered) end out' p → Tells (obeyed t) at m (end + 1) (set out' end lineFeed) p
+obeyed-told t at end m out' p h = record {
+  end = let l = length-append (t .text) (lineFeed ∷ []) in let e = h .end in omega arith;
+  text = rw (h .text, ← put-one m at answered, put-then m at (at + 1) (answered ∷ []) (t .text) (omega arith))
+      (put-behind m at end (answered ∷ t .text) lineFeed (let e = h .end in omega arith));
+  state = h .state;
+}
+
+-- a line of another kind than Other is answered by the replies of its calls
+pub obeyed-by : (k : Kind) (n : ℕ) (line : List ℕ) (p : State) → OneOf (0 ∷ 1 ∷ 2 ∷ []) (tagOf the-type k) → answerBy k n line p ≡ obeyed (tells (callsOf k line) p)
+unfolding answerBy
+obeyed-by Bytes n line p h = refl
+obeyed-by Frame n line p h = refl
+obeyed-by PowerOn n line p h = refl
+obeyed-by Other n line p h = absurd (miss (0 ∷ 1 ∷ 2 ∷ []) 3 tt h)
+
+-- nothing is told in no character
+pub nothing-told : (p : State) (at : ℕ) (out : List ℕ) → Tells (quiet p) at out at out p
+nothing-told p at out = record { end = omega arith; text = sym (over-none newer out at); state = refl }
+
+-- power on has no reply, and leaves the memories
+pub power-told : (p : State) → tells (Power ∷ []) p ≡ quiet (powered (p .memories))
+unfolding tells tell call causeFor decide perform sent after effect says
+power-told p = refl
+
+-- a number that stands between `? ` and LF is a notice
+pub noticed : (n at end : ℕ) (m out' : List ℕ) → end ≡ at + 2 + length (decimal n) → out' ≡ put (put m at (notUnderstood ∷ space ∷ [])) (at + 2) (decimal n)
+    → set out' end lineFeed ≡ put m at (notice n)
+noticed n at end m out' e w =
+    rw (w, put-then m at (at + 2) (notUnderstood ∷ space ∷ []) (decimal n) (omega arith))
+    (put-behind m at end (notUnderstood ∷ space ∷ decimal n) lineFeed (omega arith))
+
+pub length-notice : (n : ℕ) → length (notice n) ≡ length (decimal n) + 3
+length-notice n = let l = length-append (decimal n) (lineFeed ∷ []) in omega arith

@@ -1,0 +1,44 @@
+-- What the functions that answer promise: every part of what they give back and every byte lent.
+use Prim.Native.Nat.{ℕ, _+_, _*_, _≤_}
+use mathlib.Core.Path.{_≡_}
+use mathlib.Core.Bool.{Bool}
+use mathlib.Core.List.{List, map}
+use lib.Dec.{T}
+use lib.ListN.{length, drop}
+use Rattle.words.specs.Over.{put}
+use Rattle.memories.specs.Memories.{Memories, proper}
+use Rattle.boot.specs.Calls.{Byte}
+use Rattle.boot.specs.Promise.{stateOf}
+use Rattle.boot.specs.declared.Session.{Session}
+use Rattle.desk_lines.specs.Lines.{areFields, fields}
+use Rattle.desk_print.specs.Prints.{numberRoom}
+use Rattle.desk_answers.specs.Answers.{deskRoom, tells}
+use Rattle.desk_answers.specs.Told.{Told}
+
+-- what is told stands in a text from one place to another, the text is else unchanged, and a state is as told
+pub record Tells {A : Type 0} (t : Told A) (at : ℕ) (before : List ℕ) (until : ℕ) (after : List ℕ) (now : A) : Type 0 where
+  pub end : until ≡ at + length (t .text)
+  pub text : after ≡ put before at (t .text)
+  pub state : now ≡ t .state
+
+-- what is left to tell from a place in a text on ends as the whole does
+pub record Continues {A : Type 0} (rest : Told A) (from : ℕ) (out : List ℕ) (whole : Told A) (at : ℕ) (before : List ℕ) : Type 0 where
+  pub end : from + length (rest .text) ≡ at + length (whole .text)
+  pub text : put out from (rest .text) ≡ put before at (whole .text)
+  pub state : rest .state ≡ whole .state
+
+-- a session takes the first characters of some hex bytes, n of them, at once: nothing is told of these, and another session is left, by whatever
+-- memories that have their lengths or, as is said, have not
+pub record Passes (s : Session) (right : Bool) (rest : List ℕ) (next : Session) (n : ℕ) : Type 0 where
+  pub within : n ≤ length rest
+  pub left : T (areFields (drop n rest))
+  pub told : (m : Memories) → proper m ≡ right
+      → tells (map (Byte deskRoom) (fields rest)) (stateOf s m) ≡ tells (map (Byte deskRoom) (fields (drop n rest))) (stateOf next m)
+
+-- the most characters of the notice that bears a line's number
+abbrev pub noticeRoom : ℕ
+noticeRoom = numberRoom + 3
+
+-- the most characters that the answer to a line of n characters may need: for each field a whole reply, a byte in three characters
+abbrev pub answerRoom : ℕ → ℕ
+answerRoom n = deskRoom * n + noticeRoom

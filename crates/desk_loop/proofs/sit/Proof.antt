@@ -1,0 +1,135 @@
+-- Between two reads all is ready, and each read uses up one of those that may be made.
+use borrow.Author.Needs.{needs}
+use native.Mathlib.Omega.{arith}
+use mathlib.Core.Path.{_≡_, refl, sym, _∙_}
+use Prim.Native.Nat.{_≤_, _+_, _*_, _^_}
+use lib.ListN.{length}
+use lib.Seq.{length-take-le}
+use Rattle.memories.specs.Memories.{memories}
+use Rattle.desk_hearing.specs.Promise.{deskOf}
+use Rattle.desk_loop.specs.Turns.{readCharacters, Ready, HasHeard}
+use Rattle.desk_loop.proofs.Hearing.{sits-down, one-more, gets-up}
+use Rattle.desk_loop.proofs.sit.Statement.{statement}
+use Rattle.desk_loop.proofs.sit.Tie as tie
+
+abbrev Inv-loop : tie.InvT-loop
+Inv-loop from to line₀ flash₀ sram₀ usd₀ out₀ desk₀ turns₀ line flash sram usd out desk turns =
+    Ready desk line out
+    × (desk .lines + readCharacters * turns ≤ 2 ^ 63)
+    × (length line ≡ length line₀)
+    × (length flash ≡ length flash₀)
+    × (length sram ≡ length sram₀)
+    × (length usd ≡ length usd₀)
+    × (length out ≡ length out₀)
+    × HasHeard (deskOf desk line (memories flash sram usd))
+
+abbrev μ-loop : tie.MeasureT-loop
+μ-loop from to line₀ flash₀ sram₀ usd₀ out₀ desk₀ turns₀ line flash sram usd out desk turns = turns
+
+loop-holds : tie.Need-loop-holds Inv-loop μ-loop
+loop-holds c =
+    let start = c .before .before .before .before .before .before in (
+      record { room = (start .pre .0); kept = omega arith; written = refl; answers = (start .pre .1 .0) },
+      omega arith,
+      refl,
+      refl,
+      refl,
+      refl,
+      refl,
+      sits-down _ (start .args .line .now) _ (c .power-on .ensures .session) (start .pre .1 .1),
+    )
+
+turn-requires : tie.Need-turn-requires Inv-loop μ-loop
+turn-requires c κs =
+    let at-loop = c .before .before .before .before .before .before in
+    (at-loop .loop .inv .0, omega (arith, at-loop .loop .inv .1))
+
+loop-again : tie.Need-loop-again Inv-loop μ-loop
+loop-again c =
+    let after-turn = c .before .before .before .before .before .before .before .before .before .before .before .before in
+    let at-loop = after-turn .before .before .before .before .before .before .before in
+    let k = after-turn .turn .kept in (
+      after-turn .turn .ensures .0,
+      omega (arith, after-turn .turn .ensures .1 .0, c .turns-left .ensures, at-loop .loop .inv .1),
+      k .1 .1 .1 .0 ∙ at-loop .loop .inv .2,
+      k .1 .1 .1 .1 .0 ∙ at-loop .loop .inv .3,
+      k .1 .1 .1 .1 .1 .0 ∙ at-loop .loop .inv .4,
+      k .1 .1 .1 .1 .1 .1 .0 ∙ at-loop .loop .inv .5,
+      k .1 .1 .1 .1 .1 .1 .1 .0 ∙ at-loop .loop .inv .6,
+      one-more (at-loop .loop .inv .7) (after-turn .turn .ensures .1 .1),
+    )
+
+finish-requires : tie.Need-finish-requires Inv-loop μ-loop
+finish-requires c κs =
+    let at-loop = c .before .before .before .before .before .before in
+    let r = at-loop .loop .inv .0 in
+    (omega (arith, r .room, r .kept), (omega (arith, at-loop .loop .inv .1), omega (arith, r .kept, r .written, r .answers)))
+
+slice-reshare-prefix-write-all : tie.Need-slice-reshare-prefix-write-all Inv-loop μ-loop
+slice-reshare-prefix-write-all c =
+    let after-finish = c .before .before .before .before .before .before .before .before in
+    omega (arith, after-finish .finish .ensures .1, after-finish .finish .kept .1 .1 .1 .1 .1 .0)
+
+slice-aggregate-write-all : tie.Need-slice-aggregate-write-all Inv-loop μ-loop
+slice-aggregate-write-all c =
+    let after-finish = c .before .before .before .before .before .before .before .before .before in
+    sym (length-take-le (after-finish .finish .result .end) (after-finish .finish .last .1 .1 .1 .1 .1 .0)
+    (omega (arith, after-finish .finish .ensures .1, after-finish .finish .kept .1 .1 .1 .1 .1 .0)))
+
+same-length : tie.Need-same-length Inv-loop μ-loop
+same-length c =
+    let at-loop = c .before .before .before .before .before .before .before .before .before .before .before .before .before .before .before .before .before in
+    at-loop .loop .inv .2
+
+same-length-2 : tie.Need-same-length-2 Inv-loop μ-loop
+same-length-2 c =
+    let after-finish = c .before .before .before .before .before .before .before .before .before .before in
+    let at-loop = after-finish .before .before .before .before .before .before .before in
+    after-finish .finish .kept .1 .1 .0 ∙ at-loop .loop .inv .3
+
+same-length-3 : tie.Need-same-length-3 Inv-loop μ-loop
+same-length-3 c =
+    let after-finish = c .before .before .before .before .before .before .before .before .before .before in
+    let at-loop = after-finish .before .before .before .before .before .before .before in
+    after-finish .finish .kept .1 .1 .1 .0 ∙ at-loop .loop .inv .4
+
+same-length-4 : tie.Need-same-length-4 Inv-loop μ-loop
+same-length-4 c =
+    let after-finish = c .before .before .before .before .before .before .before .before .before .before in
+    let at-loop = after-finish .before .before .before .before .before .before .before in
+    after-finish .finish .kept .1 .1 .1 .1 .0 ∙ at-loop .loop .inv .5
+
+same-length-5 : tie.Need-same-length-5 Inv-loop μ-loop
+same-length-5 c =
+    let after-finish = c .before .before .before .before .before .before .before .before .before .before in
+    let at-loop = after-finish .before .before .before .before .before .before .before in
+    after-finish .finish .kept .1 .1 .1 .1 .1 .0 ∙ at-loop .loop .inv .6
+
+returns : tie.Need-returns Inv-loop μ-loop
+returns c =
+    let after-finish = c .before .before .before .before .before .before .before .before .before .before in
+    let at-loop = after-finish .before .before .before .before .before .before .before in
+    gets-up (at-loop .loop .inv .7) (after-finish .finish .ensures .0 .state)
+
+pub sit-spec : {M : Type 1} → statement M
+sit-spec =
+    tie.close
+    (tie.spec
+    Inv-loop
+    μ-loop
+    (λ c κs. search needs)
+    loop-holds
+    turn-requires
+    (λ c κs. omega arith)
+    (λ c. omega (arith, c .turns-left .ensures))
+    loop-again
+    finish-requires
+    slice-reshare-prefix-write-all
+    slice-aggregate-write-all
+    (λ c κs. search needs)
+    same-length
+    same-length-2
+    same-length-3
+    same-length-4
+    same-length-5
+    returns)

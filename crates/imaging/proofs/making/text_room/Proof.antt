@@ -1,7 +1,0 @@
--- So many zeros have that length.
-use Rattle.imaging.proofs.Prefixes.{so-many}
-use Rattle.imaging.proofs.making.text_room.Statement.{statement}
-use Rattle.imaging.proofs.making.text_room.Tie as tie
-
-pub text-room-spec : {M : Type 1} → statement M
-text-room-spec = tie.close (tie.spec (λ c. so-many 2097153 0))
