@@ -164,7 +164,7 @@ impl Host {
         text
     }
 
-    /// Removes, inserts or changes a character, or makes a line of small letters, too long or empty.
+    /// Removes, inserts or changes a character, or makes digits small, or a line too long or empty.
     fn edit(&mut self, text: &mut Vec<u8>) {
         let dice = &mut self.dice;
         let place = dice.below(text.len() + 1);
@@ -173,7 +173,7 @@ impl Host {
             0 if place < text.len() => {
                 text.remove(place);
             }
-            1 => text.make_ascii_lowercase(),
+            1 => text.iter_mut().skip(1).for_each(|character| character.make_ascii_lowercase()),
             2 => text.extend(b" FF".repeat(dice.one_of(&[1, 8, 9]))),
             6 => *text = uart_line(&vec![character; LINE_BYTES + dice.below(3)]),
             3 => text.truncate(place),

@@ -186,12 +186,15 @@ complete-goes US.Step.WriteAddress e a bytes view x h = addressed-goes _ _ (kept
 complete-goes US.Step.CrcAddress e a bytes view x h = addressed-goes _ _ (kept-goes _ _ _ _ tt) bytes
 complete-goes US.Step.ReadLength e a bytes view x h = either (Goes _) _ (reading-made (Goes _) (refusal _) _ _ (λ r at e. record { holds = tt })) (refusal _ _)
 complete-goes US.Step.WriteLength e a bytes view x h = awaits-goes US.Step.WriteData tt refl bytes (h x)
-complete-goes US.Step.WriteData e a bytes view x h = either (Goes _) _ (writing-made (Goes _) (refusal _) view _ _ (λ r at e. written-goes _ r at _)) (refusal _ _)
+complete-goes US.Step.WriteData e a bytes view x h =
+    either (Goes _) _ (writing-made (Goes _) (refusal _) view _ _ (λ r at e. written-goes _ r at _)) (refusal _ _)
 complete-goes US.Step.EraseSelector e a bytes view x h = selected-goes _
 complete-goes US.Step.SpecialCheck e a bytes view x h = either (Goes _) _ (judged-either (Goes _) _ (refusal _) (record { holds = tt })) (refusal _ _)
-complete-goes US.Step.EraseList e a bytes view x h = either (Goes _) _ (erasing-made (Goes _) (refusal _) view bytes _ (λ t. record { holds = tt })) (refusal _ _)
+complete-goes US.Step.EraseList e a bytes view x h =
+    either (Goes _) _ (erasing-made (Goes _) (refusal _) view bytes _ (λ t. record { holds = tt })) (refusal _ _)
 complete-goes US.Step.ProtectLength e a bytes view x h = awaits-goes US.Step.ProtectList tt refl bytes (h x)
-complete-goes US.Step.ProtectList e a bytes view x h = either (Goes _) _ (protecting-made (Goes _) (refusal _) bytes _ (λ t. record { holds = tt })) (refusal _ _)
+complete-goes US.Step.ProtectList e a bytes view x h =
+    either (Goes _) _ (protecting-made (Goes _) (refusal _) bytes _ (λ t. record { holds = tt })) (refusal _ _)
 complete-goes US.Step.CrcCount e a bytes view x h = either (Goes _) _ (summing-made (Goes _) (refusal _) _ _ (λ at e. record { holds = tt })) (refusal _ _)
 
 -- ---- the session after a byte

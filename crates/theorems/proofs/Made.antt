@@ -189,7 +189,8 @@ module _ (P : Decision → Type 0) (b : Parts P) where
   uart-complete US.Step.JumpAddress p view n t f = uart-addressed _ jumped-made _
   uart-complete US.Step.WriteAddress p view n t f = uart-addressed _ (uart-kept _ _ _) _
   uart-complete US.Step.CrcAddress p view n t f = uart-addressed _ (uart-kept _ _ _) _
-  uart-complete US.Step.ReadLength p view n t f = choice _ (reading-made P refusal _ _ (λ r at e. f .read (record { step = refl; long = t }) r at _)) (refusal _)
+  uart-complete US.Step.ReadLength p view n t f =
+      choice _ (reading-made P refusal _ _ (λ r at e. f .read (record { step = refl; long = t }) r at _)) (refusal _)
   uart-complete US.Step.WriteLength p view n t f = b .told tt
   uart-complete US.Step.WriteData p view n t f = choice _ (written-made view _ _) (refusal _)
   uart-complete US.Step.EraseSelector p view n t f = uart-selected _
