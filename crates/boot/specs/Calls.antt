@@ -14,7 +14,7 @@ use Rattle.command.specs.Progress.{stagedWith}
 use Rattle.command.specs.Says.{says}
 use Rattle.command.specs.declared.Decision.{Decision}
 use Rattle.command.specs.declared.Next.the-variants.{Stay, Reset}
-use Rattle.command.specs.declared.Told.the-variants.{Silence}
+use Rattle.command.specs.declared.FixedReply.the-variants.{Silence}
 use Rattle.uart.specs.Conversation as UC
 use Rattle.can.specs.Steps as C
 use Rattle.can.specs.Conversation as CC

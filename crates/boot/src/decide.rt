@@ -14,8 +14,8 @@ use crate::Session;
 use board::View;
 use carriers::Carrier;
 use command::Decision;
+use command::FixedReply;
 use command::Next;
-use command::Told;
 
 // The byte that asks for a connection, and the ID.
 const CONNECT_BYTE: u8 = 0x7F;
@@ -29,9 +29,9 @@ impl Session {
     {
         let connects = self.on(Carrier::None) & calls;
         if connects {
-            command::answer(Told::Ack, Next::GoIdle)
+            command::answer(FixedReply::Ack, Next::GoIdle)
         } else {
-            command::answer(Told::Silence, Next::Stay)
+            command::answer(FixedReply::Silence, Next::Stay)
         }
     }
 

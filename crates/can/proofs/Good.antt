@@ -8,7 +8,8 @@ use Rattle.board.specs.Quantities.{addressBytes}
 use Rattle.board.specs.declared.View.{View}
 use Rattle.command.specs.Progress.{Progress, progressAt, stagedWith}
 use Rattle.command.specs.declared.Command.{Command}
-use Rattle.command.specs.declared.Command.the-variants.{GetCommands, GetVersion, GetDeviceId, ReadMemory, Jump, WriteMemory, Erase, ProgramProtect, ProgramUnprotect, AccessProtect, AccessUnprotect, FirmwareCrc, ResetDevice, Speed}
+use Rattle.command.specs.declared.Command.the-variants.{GetCommands, GetVersion, GetDeviceId, ReadMemory, Jump, WriteMemory, Erase, ProgramProtect}
+use Rattle.command.specs.declared.Command.the-variants.{ProgramUnprotect, AccessProtect, AccessUnprotect, FirmwareCrc, ResetDevice, Speed}
 use Rattle.command.specs.declared.Decision.{Decision}
 use Rattle.command.specs.declared.Lookup.{Lookup}
 use Rattle.command.specs.declared.Lookup.the-variants.{Known, Unknown}

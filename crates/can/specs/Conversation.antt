@@ -14,16 +14,18 @@ use Rattle.command.specs.Commands.{code, canCommands, lookUp}
 use Rattle.command.specs.Decision.{if_gives_else_, answer, alter, nack, judged}
 use Rattle.command.specs.Progress.{Progress, progressAt, stagedWith, short, overfull}
 use Rattle.command.specs.declared.Command.{Command}
-use Rattle.command.specs.declared.Command.the-variants.{GetCommands, GetVersion, GetDeviceId, ReadMemory, Jump, WriteMemory, Erase, ProgramProtect, ProgramUnprotect, AccessProtect, AccessUnprotect, FirmwareCrc, ResetDevice, Speed}
+use Rattle.command.specs.declared.Command.the-variants.{GetCommands, GetVersion, GetDeviceId, ReadMemory, Jump, WriteMemory, Erase, ProgramProtect}
+use Rattle.command.specs.declared.Command.the-variants.{ProgramUnprotect, AccessProtect, AccessUnprotect, FirmwareCrc, ResetDevice, Speed}
 use Rattle.command.specs.declared.Decision.{Decision}
 use Rattle.command.specs.declared.Lookup.{Lookup}
 use Rattle.command.specs.declared.Lookup.the-variants.{Known, Unknown}
 use Rattle.command.specs.declared.Next.the-variants.{Gather, GoIdle, SetSpeed, Enter, EnterAt}
-use Rattle.command.specs.declared.Told.the-variants.{Silence, Ack, AckAck, AckNack, Commands, Version, DeviceId}
+use Rattle.command.specs.declared.FixedReply.the-variants.{Silence, Ack, AckAck, AckNack, Commands, Version, DeviceId}
 use Rattle.command.specs.declared.Verdict.{Verdict}
 use Rattle.command.specs.declared.Verdict.the-variants.{Fine, No}
 use Rattle.command.specs.declared.Why.the-variants.{BadComplement, UnknownCommand, OtherFrame, BadRange, BadSpeed}
-use Rattle.rules.specs.Rules.{unlessProtected, telling, reading, writeVerdict, writing, selectorOf, erasing, eraseAllVerdict, protecting, releasing, locking, unlocking, resetting, jumping, summing}
+use Rattle.rules.specs.Rules.{unlessProtected, telling, reading, writeVerdict, writing, selectorOf, erasing, eraseAllVerdict, protecting, releasing}
+use Rattle.rules.specs.Rules.{locking, unlocking, resetting, jumping, summing}
 use Rattle.rules.specs.declared.Selector.{Selector}
 use Rattle.rules.specs.declared.Selector.the-variants.{Listed, Special, Impossible}
 use Rattle.frames.specs.Frames.{Frame, carried, counted}

@@ -15,7 +15,7 @@ use Rattle.command.specs.Decision.{answer, alter, show, nack}
 use Rattle.command.specs.declared.Decision.{Decision}
 use Rattle.command.specs.declared.Next.the-variants.{Reset, Gather, GoIdle, SetSpeed, Enter, EnterAt}
 use Rattle.command.specs.declared.Reply.the-variants.{Data, Crc}
-use Rattle.command.specs.declared.Told.the-variants.{Silence, Ack, AckAck, AckNack}
+use Rattle.command.specs.declared.FixedReply.the-variants.{Silence, Ack, AckAck, AckNack}
 use Rattle.command.specs.declared.Why.the-variants.{BadComplement, UnknownCommand, AccessProtected, OtherFrame, BadRange, BadSector, UnsupportedErase, BadSpeed}
 use Rattle.rules.specs.Rulings.{Ruling, _is_, Ruled, fresh, locked}
 use Rattle.can.specs.Conversation.{commandBytes, heard}

@@ -8,7 +8,7 @@ ghost use lib.Dec.{eqb, leb, ltb};
 ghost use Rattle.board.specs.Quantities.{largestCount};
 ghost use Rattle.command.specs.Decision.{if_gives_else_, answer, nack};
 ghost use Rattle.command.specs.declared.Next.the-variants.{Gather};
-ghost use Rattle.command.specs.declared.Told.the-variants.{Silence};
+ghost use Rattle.command.specs.declared.FixedReply.the-variants.{Silence};
 ghost use Rattle.command.specs.declared.Why.the-variants.{BadRange, OtherFrame};
 ghost use Rattle.frames.specs.Frames.{classic};
 ghost use Rattle.can.specs.Steps.{stepNo, stepOf, expects};
@@ -16,8 +16,8 @@ ghost use Rattle.can.specs.Conversation.{bears, canRoom};
 use board::Board;
 use board::LessOne;
 use command::Decision;
+use command::FixedReply;
 use command::Next;
-use command::Told;
 use command::Why;
 use command::code;
 
@@ -119,7 +119,7 @@ pub fn gathering(
     }
     let more = taken + dlc < expected;
     if more {
-        command::answer(Told::Silence, Next::Gather)
+        command::answer(FixedReply::Silence, Next::Gather)
     } else {
         done
     }

@@ -10,16 +10,16 @@ use can::LARGEST_SPEED;
 use can::Step;
 use command::Command;
 use command::Decision;
+use command::FixedReply;
 use command::Lookup;
 use command::Next;
-use command::Told;
 use command::Verdict;
 use command::Why;
 use command::code;
-use rules_code::at_once;
-use rules_code::sent;
 use memories::Change;
 use rules::Selector;
+use rules_code::at_once;
+use rules_code::sent;
 
 // The DLC of an address with a count of one byte, and of two.
 const ADDRESS_AND_COUNT: usize = 5;
@@ -80,7 +80,7 @@ fn write_memory(view: View, carried: &[u8]) -> Decision
     command::judged(
         rules_code::write::write_verdict(view, address, x),
         command::answer(
-            Told::Ack,
+            FixedReply::Ack,
             Next::EnterAt(Step::WriteData.number(), x, address.0),
         ),
     )
@@ -91,8 +91,8 @@ fn erased_or_not(verdict: Verdict) -> Decision
     ensures { λ r. ⌜ r ≡ erasedOrNot verdict ⌝ }
 {
     match verdict {
-        Verdict::Fine => command::alter(Told::AckAck, Change::EraseAll, Next::GoIdle),
-        Verdict::No(why) => command::answer(Told::AckNack(why), Next::GoIdle),
+        Verdict::Fine => command::alter(FixedReply::AckAck, Change::EraseAll, Next::GoIdle),
+        Verdict::No(why) => command::answer(FixedReply::AckNack(why), Next::GoIdle),
     }
 }
 
@@ -102,7 +102,7 @@ fn selected(view: View, selector: Selector) -> Decision
 {
     match selector {
         Selector::Listed(sent) => command::answer(
-            Told::Ack,
+            FixedReply::Ack,
             Next::Enter(Step::EraseList.number(), 2 * sent.count()),
         ),
         Selector::Special(number) => {
@@ -129,7 +129,7 @@ fn program_protect(carried: &[u8]) -> Decision
     ensures { λ r. ⌜ ((view : View) → r ≡ obeyed view (now (carried .entry)) ProgramProtect) ⌝ }
 {
     command::answer(
-        Told::Ack,
+        FixedReply::Ack,
         Next::Enter(Step::ProtectList.number(), sent::count_of(carried[0])),
     )
 }
@@ -156,7 +156,7 @@ fn set_speed(carried: &[u8]) -> Decision
     let speed = carried[0];
     command::accept_if(
         speed <= LARGEST_SPEED,
-        command::answer(Told::AckAck, Next::SetSpeed(speed)),
+        command::answer(FixedReply::AckAck, Next::SetSpeed(speed)),
         Why::BadSpeed,
     )
 }
@@ -167,9 +167,9 @@ fn obeyed(view: View, carried: &[u8], command: Command) -> Decision
     ensures { λ r. ⌜ r ≡ obeyed view (now (carried .entry)) command ⌝ }
 {
     match command {
-        Command::GetCommands => at_once::tell(Told::Commands),
-        Command::GetVersion => at_once::tell(Told::Version),
-        Command::GetDeviceId => at_once::tell(Told::DeviceId),
+        Command::GetCommands => at_once::tell(FixedReply::Commands),
+        Command::GetVersion => at_once::tell(FixedReply::Version),
+        Command::GetDeviceId => at_once::tell(FixedReply::DeviceId),
         Command::ReadMemory => read_memory(carried),
         Command::Jump => rules_code::jump::jump(sent::address_in(carried)),
         Command::WriteMemory => write_memory(view, carried),
@@ -193,7 +193,11 @@ fn commanded(view: View, number: u8, carried: &[u8]) -> Decision
     match lookup {
         Lookup::Known(command) => {
             if right {
-                rules_code::protected::unless_protected(view, command, obeyed(view, carried, command))
+                rules_code::protected::unless_protected(
+                    view,
+                    command,
+                    obeyed(view, carried, command),
+                )
             } else {
                 command::nack(Why::BadComplement)
             }

@@ -5,7 +5,9 @@ use denote.Enum.Declared.{tagOf}
 use lib.ListN.{getD}
 use Rattle.command.specs.Commands.{canCommands}
 use Rattle.command.specs.declared.Command.{Command}
-use Rattle.command.specs.declared.Command.the-variants.{GetCommands, GetVersion, GetDeviceId, ReadMemory, Jump, WriteMemory, Erase, ProgramProtect, ProgramUnprotect, AccessProtect, AccessUnprotect, FirmwareCrc, ResetDevice, Speed}
+use Rattle.command.specs.declared.Command.the-variants.{GetCommands, GetVersion, GetDeviceId, ReadMemory, Jump, WriteMemory, Erase}
+use Rattle.command.specs.declared.Command.the-variants.{ProgramProtect, ProgramUnprotect, AccessProtect, AccessUnprotect, FirmwareCrc}
+use Rattle.command.specs.declared.Command.the-variants.{ResetDevice, Speed}
 use Rattle.command.proofs.Command as C
 
 -- the command that is declared at a place of the list

@@ -7,8 +7,8 @@ use Rattle.command.specs.declared.Next.{Next}
 use Rattle.command.specs.declared.Next.the-variants.{GoIdle}
 use Rattle.command.specs.declared.Reply.{Reply}
 use Rattle.command.specs.declared.Reply.the-variants.{Fixed}
-use Rattle.command.specs.declared.Told.{Told}
-use Rattle.command.specs.declared.Told.the-variants.{Nack}
+use Rattle.command.specs.declared.FixedReply.{FixedReply}
+use Rattle.command.specs.declared.FixedReply.the-variants.{Nack}
 use Rattle.command.specs.declared.Verdict.{Verdict}
 use Rattle.command.specs.declared.Verdict.the-variants.{Fine, No}
 use Rattle.command.specs.declared.Why.{Why}
@@ -20,11 +20,11 @@ if true gives a else b = a
 if false gives a else b = b
 
 -- what is told and what becomes of the session; the memories stay
-abbrev pub answer : Told → Next → Decision
+abbrev pub answer : FixedReply → Next → Decision
 answer t n = record { reply = Fixed t; change = Nothing; next = n }
 
 -- what is told of a change that is made
-abbrev pub alter : Told → Change → Next → Decision
+abbrev pub alter : FixedReply → Change → Next → Decision
 alter t c n = record { reply = Fixed t; change = c; next = n }
 
 -- what is read from a memory, after which the session is idle

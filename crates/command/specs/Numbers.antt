@@ -12,7 +12,8 @@ use Rattle.command.specs.declared.Command.the-variants.{Speed}
 use Rattle.command.specs.declared.Lookup.{Lookup}
 use Rattle.command.specs.declared.Lookup.the-variants.{Known, Unknown}
 use Rattle.command.specs.declared.Why.{Why}
-use Rattle.command.specs.declared.Why.the-variants.{BadComplement, UnknownCommand, AccessProtected, OtherFrame, BadChecksum, BadAddress, BadRange, BadSector, WriteProtected, UnsupportedErase, BadSpeed}
+use Rattle.command.specs.declared.Why.the-variants.{BadComplement, UnknownCommand, AccessProtected, OtherFrame, BadChecksum, BadAddress}
+use Rattle.command.specs.declared.Why.the-variants.{BadRange, BadSector, WriteProtected, UnsupportedErase, BadSpeed}
 
 -- what each number of a list of commands finds in it
 abbrev pub foundIn : List Command → List Lookup

@@ -13,8 +13,8 @@ use Rattle.word_crc.specs.Words.{wordCrc}
 use Rattle.memories.specs.Memories.{Memories, bytesOf}
 use Rattle.command.specs.declared.Reply.{Reply}
 use Rattle.command.specs.declared.Reply.the-variants.{Fixed, Data, Crc}
-use Rattle.command.specs.declared.Told.{Told}
-use Rattle.command.specs.declared.Told.the-variants.{Silence, Ack, AckAck, Nack, AckNack, Commands, Version, DeviceId}
+use Rattle.command.specs.declared.FixedReply.{FixedReply}
+use Rattle.command.specs.declared.FixedReply.the-variants.{Silence, Ack, AckAck, Nack, AckNack, Commands, Version, DeviceId}
 
 -- ACK is 0x79, NACK 0x1F
 abbrev pub ackByte : ℕ
@@ -44,7 +44,7 @@ deviceBytes =
     ∷ byteOf (identity .product) 2 ∷ identity .project ∷ []
 
 -- the messages of what is told, given what the carrier tells of its commands
-abbrev pub tells : List ℕ → Told → List (List ℕ)
+abbrev pub tells : List ℕ → FixedReply → List (List ℕ)
 tells commands Silence = []
 tells commands Ack = ackMessage ∷ []
 tells commands AckAck = ackMessage ∷ ackMessage ∷ []

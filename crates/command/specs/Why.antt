@@ -1,7 +1,8 @@
 -- The reasons of a refusal, in the order in which they are tested: document 02, Wish 2. No promise shows them yet.
 use Prim.Native.Nat.{ℕ}
 use Rattle.command.specs.declared.Why.{Why}
-use Rattle.command.specs.declared.Why.the-variants.{BadComplement, UnknownCommand, AccessProtected, OtherFrame, BadChecksum, BadAddress, BadRange, BadSector, WriteProtected, UnsupportedErase, BadSpeed}
+use Rattle.command.specs.declared.Why.the-variants.{BadComplement, UnknownCommand, AccessProtected, OtherFrame, BadChecksum, BadAddress}
+use Rattle.command.specs.declared.Why.the-variants.{BadRange, BadSector, WriteProtected, UnsupportedErase, BadSpeed}
 
 -- the number of each reason
 abbrev pub reason : Why → ℕ

@@ -57,7 +57,7 @@ pub enum Verdict {
 }
 
 // What is told whatever the memories hold.
-pub enum Told {
+pub enum FixedReply {
     Silence,
     Ack,
     AckAck,
@@ -70,7 +70,7 @@ pub enum Told {
 
 // What is answered: what is fixed, or what is read from a memory, whose bytes are named, not held.
 pub enum Reply {
-    Fixed(Told),
+    Fixed(FixedReply),
     // So many bytes of a region, from an offset on.
     Data(Region, usize, usize),
     // The checksum of so many bytes of flash, from an offset on.
@@ -100,14 +100,14 @@ pub struct Decision {
 }
 
 // What is told, and what becomes of the session; the memories stay.
-pub fn answer(told: Told, next: Next) -> Decision
+pub fn answer(told: FixedReply, next: Next) -> Decision
     ensures { λ r. ⌜ r ≡ answer told next ⌝ }
 {
     alter(told, Change::Nothing, next)
 }
 
 // What is told of a change that is made.
-pub fn alter(told: Told, change: Change, next: Next) -> Decision
+pub fn alter(told: FixedReply, change: Change, next: Next) -> Decision
     ensures { λ r. ⌜ r ≡ alter told change next ⌝ }
 {
     Decision {
@@ -132,7 +132,7 @@ pub fn show(reply: Reply) -> Decision
 pub fn nack(why: Why) -> Decision
     ensures { λ r. ⌜ r ≡ nack why ⌝ }
 {
-    answer(Told::Nack(why), Next::GoIdle)
+    answer(FixedReply::Nack(why), Next::GoIdle)
 }
 
 // A decision that is accepted where a test holds, and else refused.

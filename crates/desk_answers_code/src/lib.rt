@@ -12,14 +12,14 @@ ghost use Rattle.boot.specs.Promise.{stateOf};
 ghost use Rattle.desk_lines.specs.Lines.{areFields, fields, areFrame, frameWritten, kindOf};
 ghost use Rattle.desk_answers.specs.Answers.{deskRoom, tell, tells, callsOf, obeyed, notice, answer};
 ghost use Rattle.desk_answers.specs.Promise.{Tells, Passes, noticeRoom, answerRoom};
+use boot::Session;
 use desk_answers::ANSWERED;
 use desk_answers::NOT_UNDERSTOOD;
-use boot::Session;
 use desk_lines::Kind;
 use desk_lines::line;
+use desk_written::first::LINE_FEED;
 use words::FIELD;
 use words::SPACE;
-use desk_written::first::LINE_FEED;
 
 // The room for a reply: what either carrier needs.
 const ROOM: usize = can::ROOM;

@@ -22,7 +22,7 @@ use Rattle.command.specs.declared.Command.{Command}
 use Rattle.command.specs.declared.Command.the-variants.{WriteMemory, Erase, ProgramProtect}
 use Rattle.command.specs.declared.Decision.{Decision}
 use Rattle.command.specs.declared.Next.the-variants.{Gather}
-use Rattle.command.specs.declared.Told.the-variants.{Silence}
+use Rattle.command.specs.declared.FixedReply.the-variants.{Silence}
 use Rattle.frames.specs.Frames.{Frame, classic, largestId, frameIn, carried, counted, isFrame}
 use Rattle.frames.proofs.Frames.{carried-length}
 use Rattle.can.specs.Steps as C

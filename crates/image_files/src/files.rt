@@ -2,8 +2,8 @@
 ghost use Prim.Native.Nat.{_+_, _≤_};
 ghost use lib.ListN.{length};
 ghost use Rattle.io.specs.Counts.{Counts};
-use libc::STDERR_FILENO;
 use image_says::text;
+use libc::STDERR_FILENO;
 
 // How many characters an S-record file has at most.
 pub const TEXT: usize = 2097152;

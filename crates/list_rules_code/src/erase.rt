@@ -12,8 +12,8 @@ use board::LessOne;
 use board::Sector;
 use board::View;
 use command::Decision;
+use command::FixedReply;
 use command::Next;
-use command::Told;
 use command::Verdict;
 use command::Why;
 use memories::Change;
@@ -103,7 +103,7 @@ pub fn erase(view: View, staged: &[u8], x: usize) -> Decision
 {
     command::judged(
         erase_verdict(view, staged, x),
-        command::alter(Told::Ack, Change::EraseSectors(x), Next::GoIdle),
+        command::alter(FixedReply::Ack, Change::EraseSectors(x), Next::GoIdle),
     )
 }
 

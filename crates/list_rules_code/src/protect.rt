@@ -7,8 +7,8 @@ ghost use Rattle.board.specs.Quantities.{isSector, firstIndexed};
 ghost use Rattle.rules.specs.Rules.{protecting};
 use board::Sector;
 use command::Decision;
+use command::FixedReply;
 use command::Next;
-use command::Told;
 use command::Why;
 use memories::Change;
 
@@ -36,7 +36,7 @@ pub fn protect(staged: &[u8], x: usize) -> Decision
 {
     let sectors = all_indexed(staged, x);
     if sectors {
-        command::alter(Told::Ack, Change::ProtectOnly(x), Next::Reset)
+        command::alter(FixedReply::Ack, Change::ProtectOnly(x), Next::Reset)
     } else {
         command::nack(Why::BadSector)
     }

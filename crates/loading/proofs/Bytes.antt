@@ -20,7 +20,8 @@ use Rattle.records.specs.Records.{lineOf}
 use Rattle.records.specs.declared.Line.{Line}
 use Rattle.records.proofs.Good.{data-bytes}
 use Rattle.loading.specs.Places.{dataOf, placeOf}
-use Rattle.loading.specs.Loads.{mark, accepts, isBad, isEnd, untouched, causeAt, causeOf, putAt, touchedBy, loadedBy, allLoaded, whole, atLine, judged, answerTo, imageAfter}
+use Rattle.loading.specs.Loads.{mark, accepts, isBad, isEnd, untouched, causeAt, causeOf, putAt, touchedBy, loadedBy, allLoaded, whole, atLine}
+use Rattle.loading.specs.Loads.{judged, answerTo, imageAfter}
 use Rattle.loading.specs.Says.{Among, reaches, touches, Touched, AsSaid}
 use Rattle.loading.specs.declared.Cause.the-variants.{Accepted, WrongLength, BadLine, BadChecksum, Overlap}
 use Rattle.loading.specs.declared.Loaded.{Loaded}

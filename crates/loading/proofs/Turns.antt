@@ -14,7 +14,8 @@ use Rattle.records.specs.Ends.{linesOf}
 use Rattle.records.specs.Records.{lineOf}
 use Rattle.records.specs.declared.Line.{Line}
 use Rattle.loading.specs.Places.{dataOf, placeOf}
-use Rattle.loading.specs.Loads.{mark, accepts, isEnd, untouched, causeOf, putAt, touchedBy, loadedBy, allLoaded, whole, atLine, judged, answerTo, imageAfter}
+use Rattle.loading.specs.Loads.{mark, accepts, isEnd, untouched, causeOf, putAt, touchedBy, loadedBy, allLoaded, whole, atLine, judged}
+use Rattle.loading.specs.Loads.{answerTo, imageAfter}
 use Rattle.loading.specs.declared.Cause.the-variants.{WrongLength}
 use Rattle.loading.specs.declared.Loaded.{Loaded}
 use Rattle.loading.specs.declared.Place.{Place}

@@ -15,7 +15,8 @@ use Rattle.words.specs.Lists.{part}
 use Rattle.words.proofs.Slices.{length-part}
 use Rattle.words.proofs.Tests.{both-left, both-right}
 use Rattle.records.specs.Digits.{arePairs, bytesIn}
-use Rattle.records.specs.Records.{letterS, kindBy, addressBytes, typeIn, countIn, least, fitsKind, isGood, bytesOf, addressIn, rightIn, badLine, lineOf, dataPart}
+use Rattle.records.specs.Records.{letterS, kindBy, addressBytes, typeIn, countIn, least, fitsKind, isGood, bytesOf, addressIn, rightIn, badLine}
+use Rattle.records.specs.Records.{lineOf, dataPart}
 use Rattle.records.specs.declared.Kind.{Kind}
 use Rattle.records.specs.declared.Kind.the-variants.{Bad, Header, Data, Count, End}
 use Rattle.records.proofs.Kind.{the-type}

@@ -18,7 +18,7 @@ use Rattle.memories.specs.Memories.{Memories, bytesOf}
 use Rattle.command.specs.Says.{replyRoom, ackMessage, told, versionBytes, deviceBytes, says, fixed, Said}
 use Rattle.command.specs.declared.Reply.{Reply}
 use Rattle.command.specs.declared.Reply.the-variants.{Fixed, Data, Crc}
-use Rattle.command.specs.declared.Told.the-variants.{Silence, Ack, AckAck, Nack, AckNack, Commands, Version, DeviceId}
+use Rattle.command.specs.declared.FixedReply.the-variants.{Silence, Ack, AckAck, Nack, AckNack, Commands, Version, DeviceId}
 use Rattle.reply.specs.Fixed.{fixedRoom}
 use Rattle.can.specs.Conversation.{canRoom}
 use Rattle.reply.specs.Pieces.{pieceOf}

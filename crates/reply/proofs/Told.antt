@@ -9,7 +9,7 @@ use Rattle.words.specs.Lists.{join, singly}
 use Rattle.words.specs.Over.{put}
 use Rattle.words.proofs.Over.{put-front}
 use Rattle.command.specs.Says.{ackByte, tells, Said}
-use Rattle.command.specs.declared.Told.the-variants.{Commands}
+use Rattle.command.specs.declared.FixedReply.the-variants.{Commands}
 
 -- what a carrier tells of its commands is its reply to 0x00, byte by byte
 pub commands-joined : (list : List ℕ) → ackByte ∷ list ++ ackByte ∷ [] ≡ join (tells list Commands)

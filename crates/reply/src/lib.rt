@@ -19,8 +19,8 @@ ghost use Rattle.command.specs.Says.{replyRoom, ackByte, tells, says, sayable, 
 ghost use Rattle.reply.specs.Fixed.{fixedRoom, listing, Holds, Lists};
 use board::Board;
 use board::Region;
+use command::FixedReply;
 use command::Reply;
-use command::Told;
 use command::code;
 
 // A fixed reply: bytes, of which the first few are the reply, and how many these are.
@@ -161,37 +161,37 @@ fn say_data(
 }
 
 // The bytes of what is told whatever the memories hold, given what the carrier tells of its commands.
-fn fixed_bytes(commands: Fixed, told: Told) -> Fixed
+fn fixed_bytes(commands: Fixed, told: FixedReply) -> Fixed
     requires { ⌜ Holds commands ⌝ }
     ensures { λ r. ⌜ Holds r × ((list : List ℕ) → Lists commands list → take (r .count) (r .bytes) ≡ join (tells list told)) ⌝ }
 {
     match told {
-        Told::Silence => Fixed {
+        FixedReply::Silence => Fixed {
             bytes: [0; LONGEST],
             count: 0,
         },
-        Told::Ack => Fixed {
+        FixedReply::Ack => Fixed {
             bytes: [ACK; LONGEST],
             count: 1,
         },
-        Told::AckAck => Fixed {
+        FixedReply::AckAck => Fixed {
             bytes: [ACK; LONGEST],
             count: 2,
         },
-        Told::Nack(_) => Fixed {
+        FixedReply::Nack(_) => Fixed {
             bytes: [NACK; LONGEST],
             count: 1,
         },
-        Told::AckNack(_) => Fixed {
+        FixedReply::AckNack(_) => Fixed {
             bytes: ACK_NACK,
             count: 2,
         },
-        Told::Commands => commands,
-        Told::Version => Fixed {
+        FixedReply::Commands => commands,
+        FixedReply::Version => Fixed {
             bytes: VERSION,
             count: VERSION_LENGTH,
         },
-        Told::DeviceId => Fixed {
+        FixedReply::DeviceId => Fixed {
             bytes: DEVICE,
             count: DEVICE_LENGTH,
         },

@@ -18,7 +18,7 @@ use Rattle.command.specs.Says.{sayable}
 use Rattle.command.specs.declared.Decision.{Decision}
 use Rattle.command.specs.declared.Next.{Next}
 use Rattle.command.specs.declared.Reply.{Reply}
-use Rattle.command.specs.declared.Told.{Told}
+use Rattle.command.specs.declared.FixedReply.{FixedReply}
 use Rattle.command.specs.declared.Why.{Why}
 use Rattle.command.proofs.Holds.{Holds}
 use Rattle.rules.specs.Rules.{reading, writing, erasing, protecting, jumping, summing}
@@ -31,14 +31,14 @@ pub record Good (staged : List ℕ) (d : Decision) : Type 0 where
 
 module _ (staged : List ℕ) where
   -- what is told can always be given, and what is read where it is there; no change
-  pub told : {t : Told} {n : Next} → Holds (Good staged) (answer t n)
+  pub told : {t : FixedReply} {n : Next} → Holds (Good staged) (answer t n)
   told = record { holds = record { sayable = tt; fits = tt } }
 
   shown : {r : Reply} → T (sayable r) → Holds (Good staged) (show r)
   shown h = record { holds = record { sayable = h; fits = tt } }
 
   -- a change that fits
-  made : {t : Told} {c : Change} {n : Next} → T (fits c staged) → Holds (Good staged) (alter t c n)
+  made : {t : FixedReply} {c : Change} {n : Next} → T (fits c staged) → Holds (Good staged) (alter t c n)
   made h = record { holds = record { sayable = tt; fits = h } }
 
   pub refusal : (w : Why) → Holds (Good staged) (nack w)

@@ -20,7 +20,7 @@ use Rattle.command.specs.Decision.{answer, alter, show, nack, judged}
 use Rattle.command.specs.declared.Decision.{Decision}
 use Rattle.command.specs.declared.Next.the-variants.{GoIdle, Reset, Run}
 use Rattle.command.specs.declared.Reply.the-variants.{Data, Crc}
-use Rattle.command.specs.declared.Told.the-variants.{Ack}
+use Rattle.command.specs.declared.FixedReply.the-variants.{Ack}
 use Rattle.command.specs.declared.Verdict.the-variants.{Fine, No}
 use Rattle.command.specs.declared.Why.{Why}
 use Rattle.command.specs.declared.Why.the-variants.{BadSector, WriteProtected}

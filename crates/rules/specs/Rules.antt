@@ -24,8 +24,8 @@ use Rattle.command.specs.declared.Decision.{Decision}
 use Rattle.command.specs.declared.Next.{Next}
 use Rattle.command.specs.declared.Next.the-variants.{Reset, GoIdle, Run}
 use Rattle.command.specs.declared.Reply.the-variants.{Data, Crc}
-use Rattle.command.specs.declared.Told.{Told}
-use Rattle.command.specs.declared.Told.the-variants.{Ack, AckAck}
+use Rattle.command.specs.declared.FixedReply.{FixedReply}
+use Rattle.command.specs.declared.FixedReply.the-variants.{Ack, AckAck}
 use Rattle.command.specs.declared.Verdict.{Verdict}
 use Rattle.command.specs.declared.Verdict.the-variants.{Fine, No}
 use Rattle.command.specs.declared.Why.the-variants.{AccessProtected, BadAddress, BadRange, BadSector, WriteProtected, UnsupportedErase}
@@ -37,7 +37,7 @@ unfoldable pub unlessProtected : View → Command → Decision → Decision
 unlessProtected view c d = if view .locked && protected c gives nack AccessProtected else d
 
 -- 0x00, 0x01 and 0x02 are answered at once
-abbrev pub telling : Told → Decision
+abbrev pub telling : FixedReply → Decision
 telling t = answer t GoIdle
 
 -- 0x11: an address in no region, and a range that leaves its region, are refused

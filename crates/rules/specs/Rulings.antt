@@ -14,7 +14,7 @@ use Rattle.command.specs.declared.Command.the-variants.{ReadMemory, FirmwareCrc
 use Rattle.command.specs.declared.Decision.{Decision}
 use Rattle.command.specs.declared.Next.the-variants.{Reset, GoIdle, Run}
 use Rattle.command.specs.declared.Reply.the-variants.{Data, Crc}
-use Rattle.command.specs.declared.Told.the-variants.{Ack}
+use Rattle.command.specs.declared.FixedReply.the-variants.{Ack}
 use Rattle.command.specs.declared.Why.the-variants.{AccessProtected, BadAddress, BadRange, BadSector, WriteProtected, UnsupportedErase}
 use Rattle.rules.specs.Rules.{unlessProtected, reading, writing, erasing, eraseAllVerdict, protecting, resetting, jumping, summing}
 

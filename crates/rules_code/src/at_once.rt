@@ -2,12 +2,12 @@
 ghost use mathlib.Core.Path.{_≡_};
 ghost use Rattle.rules.specs.Rules.{telling, releasing, locking, unlocking, resetting};
 use command::Decision;
+use command::FixedReply;
 use command::Next;
-use command::Told;
 use memories::Change;
 
 // 0x00, 0x01 and 0x02 are answered at once.
-pub fn tell(told: Told) -> Decision
+pub fn tell(told: FixedReply) -> Decision
     ensures { λ r. ⌜ r ≡ telling told ⌝ }
 {
     command::answer(told, Next::GoIdle)
@@ -17,26 +17,26 @@ pub fn tell(told: Told) -> Decision
 pub fn release() -> Decision
     ensures { λ r. ⌜ r ≡ releasing ⌝ }
 {
-    command::alter(Told::AckAck, Change::Release, Next::Reset)
+    command::alter(FixedReply::AckAck, Change::Release, Next::Reset)
 }
 
 // 0x82 sets protection on, then reset.
 pub fn lock() -> Decision
     ensures { λ r. ⌜ r ≡ locking ⌝ }
 {
-    command::alter(Told::AckAck, Change::Lock, Next::Reset)
+    command::alter(FixedReply::AckAck, Change::Lock, Next::Reset)
 }
 
 // 0x92 sets protection off and wipes, then reset.
 pub fn unlock() -> Decision
     ensures { λ r. ⌜ r ≡ unlocking ⌝ }
 {
-    command::alter(Told::AckAck, Change::Unlock, Next::Reset)
+    command::alter(FixedReply::AckAck, Change::Unlock, Next::Reset)
 }
 
 // 0xD4 resets.
 pub fn reset() -> Decision
     ensures { λ r. ⌜ r ≡ resetting ⌝ }
 {
-    command::answer(Told::AckAck, Next::Reset)
+    command::answer(FixedReply::AckAck, Next::Reset)
 }

@@ -3,8 +3,8 @@ ghost use mathlib.Core.Path.{_≡_};
 ghost use Rattle.rules.specs.Rules.{jumping};
 use board::Address;
 use command::Decision;
+use command::FixedReply;
 use command::Next;
-use command::Told;
 use command::Why;
 
 // A jump to an address in flash or SRAM.
@@ -13,7 +13,7 @@ pub fn jump(address: Address) -> Decision
 {
     command::accept_if(
         board::range::jumpable(address),
-        command::answer(Told::Ack, Next::Run(address.0)),
+        command::answer(FixedReply::Ack, Next::Run(address.0)),
         Why::BadAddress,
     )
 }

@@ -14,8 +14,8 @@ use board::Region;
 use board::Sector;
 use board::View;
 use command::Decision;
+use command::FixedReply;
 use command::Next;
-use command::Told;
 use command::Verdict;
 use command::Why;
 use memories::Change;
@@ -93,7 +93,7 @@ fn write_at(place: Place, x: usize) -> Decision
 {
     match place {
         Place::In(region, at) => command::alter(
-            Told::Ack,
+            FixedReply::Ack,
             Change::Write(region, at, x),
             after_write(region),
         ),

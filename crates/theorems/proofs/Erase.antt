@@ -19,7 +19,7 @@ use Rattle.command.specs.Progress.{stagedWith}
 use Rattle.command.specs.declared.Decision.{Decision}
 use Rattle.command.specs.declared.Next.{Next}
 use Rattle.command.specs.declared.Next.the-variants.{Stay, Reset, Gather, GoIdle, SetSpeed, Enter, EnterAt, Run}
-use Rattle.command.specs.declared.Told.the-variants.{Silence}
+use Rattle.command.specs.declared.FixedReply.the-variants.{Silence}
 use Rattle.boot.specs.Session.{idle, after, progress, gathered}
 use Rattle.boot.specs.Causes.{accepts}
 use Rattle.boot.specs.Calls.{done, State, Input, carrierOf, brings, viewIn, causeFor, decide, perform, refused, call, run}

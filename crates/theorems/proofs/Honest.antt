@@ -11,7 +11,7 @@ use Rattle.command.specs.Decision.{alter}
 use Rattle.command.specs.declared.Decision.{Decision}
 use Rattle.command.specs.declared.Next.{Next}
 use Rattle.command.specs.declared.Next.the-variants.{Stay, Reset, Gather, GoIdle, SetSpeed, Enter, EnterAt, Run}
-use Rattle.command.specs.declared.Told.the-variants.{Ack}
+use Rattle.command.specs.declared.FixedReply.the-variants.{Ack}
 use Rattle.rules.specs.Rules.{afterWrite}
 use Rattle.boot.specs.Calls.{Input, Power, Byte, Framed, decide}
 use Rattle.boot.specs.declared.Session.{Session}

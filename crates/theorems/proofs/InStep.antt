@@ -16,7 +16,7 @@ use Rattle.command.specs.Decision.{if_gives_else_, answer}
 use Rattle.command.specs.Progress.{short}
 use Rattle.command.specs.declared.Decision.{Decision}
 use Rattle.command.specs.declared.Next.the-variants.{Stay, GoIdle}
-use Rattle.command.specs.declared.Told.the-variants.{Silence, Ack}
+use Rattle.command.specs.declared.FixedReply.the-variants.{Silence, Ack}
 use Rattle.uart.specs.Steps as U
 use Rattle.uart.specs.Conversation as UC
 use Rattle.uart.specs.declared.Step as US

@@ -18,7 +18,7 @@ use Rattle.command.specs.Decision.{alter, judged}
 use Rattle.command.specs.Progress.{Progress, stagedWith}
 use Rattle.command.specs.declared.Decision.{Decision}
 use Rattle.command.specs.declared.Next.{Next}
-use Rattle.command.specs.declared.Told.the-variants.{Ack}
+use Rattle.command.specs.declared.FixedReply.the-variants.{Ack}
 use Rattle.command.specs.declared.Verdict.{Verdict}
 use Rattle.command.specs.declared.Verdict.the-variants.{Fine, No}
 use Rattle.command.specs.declared.Why.{Why}

@@ -15,13 +15,14 @@ use Rattle.command.specs.Decision.{answer, nack}
 use Rattle.command.specs.Progress.{Progress}
 use Rattle.command.specs.Says.{fixed}
 use Rattle.command.specs.declared.Command.{Command}
-use Rattle.command.specs.declared.Command.the-variants.{GetCommands, GetVersion, GetDeviceId, ReadMemory, Jump, WriteMemory, Erase, ProgramProtect, ProgramUnprotect, AccessProtect, AccessUnprotect, FirmwareCrc, ResetDevice, Speed}
+use Rattle.command.specs.declared.Command.the-variants.{GetCommands, GetVersion, GetDeviceId, ReadMemory, Jump, WriteMemory, Erase, ProgramProtect}
+use Rattle.command.specs.declared.Command.the-variants.{ProgramUnprotect, AccessProtect, AccessUnprotect, FirmwareCrc, ResetDevice, Speed}
 use Rattle.command.specs.declared.Decision.{Decision}
 use Rattle.command.specs.declared.Lookup.{Lookup}
 use Rattle.command.specs.declared.Lookup.the-variants.{Known, Unknown}
 use Rattle.command.specs.declared.Next.{Next}
 use Rattle.command.specs.declared.Next.the-variants.{Stay, Reset, Gather, GoIdle, SetSpeed, Enter, EnterAt, Run}
-use Rattle.command.specs.declared.Told.{Told}
+use Rattle.command.specs.declared.FixedReply.{FixedReply}
 use Rattle.command.specs.declared.Why.{Why}
 use Rattle.rules.specs.Rules.{unlocking, summing}
 use Rattle.uart.specs.Steps as U
@@ -114,7 +115,7 @@ pub record Discreet (c : Carrier) (d : Decision) : Type 0 where
 
 module _ (c : Carrier) where
   -- what is told, and no change
-  told : {t : Told} {n : Next} → T (calmNext c n) → Holds (Discreet c) (answer t n)
+  told : {t : FixedReply} {n : Next} → T (calmNext c n) → Holds (Discreet c) (answer t n)
   told k = record { holds = record { quiet = tt; harmless = tt; fixed = λ o. tt; calm = k } }
 
   -- a refusal

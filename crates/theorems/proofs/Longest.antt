@@ -24,7 +24,8 @@ use Rattle.command.specs.Decision.{alter, nack}
 use Rattle.command.specs.Says.{says}
 use Rattle.command.specs.Progress.{stagedWith, short}
 use Rattle.command.specs.declared.Command.{Command}
-use Rattle.command.specs.declared.Command.the-variants.{GetCommands, GetVersion, GetDeviceId, ReadMemory, Jump, WriteMemory, Erase, ProgramProtect, ProgramUnprotect, AccessProtect, AccessUnprotect, FirmwareCrc, ResetDevice, Speed}
+use Rattle.command.specs.declared.Command.the-variants.{GetCommands, GetVersion, GetDeviceId, ReadMemory, Jump, WriteMemory, Erase, ProgramProtect}
+use Rattle.command.specs.declared.Command.the-variants.{ProgramUnprotect, AccessProtect, AccessUnprotect, FirmwareCrc, ResetDevice, Speed}
 use Rattle.command.specs.declared.Decision.{Decision}
 use Rattle.command.specs.declared.Lookup.{Lookup}
 use Rattle.command.specs.declared.Lookup.the-variants.{Known, Unknown}
@@ -32,7 +33,7 @@ use Rattle.command.specs.declared.Next.{Next}
 use Rattle.command.specs.declared.Next.the-variants.{Stay, Reset, Gather, GoIdle, SetSpeed, Enter, EnterAt, Run}
 use Rattle.command.specs.declared.Reply.{Reply}
 use Rattle.command.specs.declared.Reply.the-variants.{Fixed, Data, Crc}
-use Rattle.command.specs.declared.Told.the-variants.{Silence, Ack, AckAck, Nack, AckNack, Commands, Version, DeviceId}
+use Rattle.command.specs.declared.FixedReply.the-variants.{Silence, Ack, AckAck, Nack, AckNack, Commands, Version, DeviceId}
 use Rattle.command.specs.declared.Why.{Why}
 use Rattle.command.proofs.Holds.{Holds, either, split, judged-either}
 use Rattle.rules.specs.Rules.{afterWrite, selectorOf}

@@ -15,15 +15,16 @@ use Rattle.command.specs.Commands.{code, uartCommands, canCommands, lookUp}
 use Rattle.command.specs.Decision.{if_gives_else_, answer, alter, show, nack}
 use Rattle.command.specs.Progress.{Progress, stagedWith, short}
 use Rattle.command.specs.declared.Command.{Command}
-use Rattle.command.specs.declared.Command.the-variants.{GetCommands, GetVersion, GetDeviceId, ReadMemory, Jump, WriteMemory, Erase, ProgramProtect, ProgramUnprotect, AccessProtect, AccessUnprotect, FirmwareCrc, ResetDevice, Speed}
+use Rattle.command.specs.declared.Command.the-variants.{GetCommands, GetVersion, GetDeviceId, ReadMemory, Jump, WriteMemory, Erase, ProgramProtect}
+use Rattle.command.specs.declared.Command.the-variants.{ProgramUnprotect, AccessProtect, AccessUnprotect, FirmwareCrc, ResetDevice, Speed}
 use Rattle.command.specs.declared.Decision.{Decision}
 use Rattle.command.specs.declared.Lookup.{Lookup}
 use Rattle.command.specs.declared.Lookup.the-variants.{Known, Unknown}
 use Rattle.command.specs.declared.Next.{Next}
 use Rattle.command.specs.declared.Next.the-variants.{GoIdle, Reset}
 use Rattle.command.specs.declared.Reply.the-variants.{Data, Crc}
-use Rattle.command.specs.declared.Told.{Told}
-use Rattle.command.specs.declared.Told.the-variants.{Silence, Ack, AckAck, Nack, AckNack, Commands, Version, DeviceId}
+use Rattle.command.specs.declared.FixedReply.{FixedReply}
+use Rattle.command.specs.declared.FixedReply.the-variants.{Silence, Ack, AckAck, Nack, AckNack, Commands, Version, DeviceId}
 use Rattle.command.specs.declared.Verdict.{Verdict}
 use Rattle.command.specs.declared.Verdict.the-variants.{Fine, No}
 use Rattle.command.specs.declared.Why.{Why}
@@ -49,7 +50,7 @@ use Rattle.rules.proofs.Unless.{unless-either}
 use Rattle.theorems.proofs.InStep.{uart-step, can-step}
 
 -- what several commands are told
-abbrev pub common : Told → Bool
+abbrev pub common : FixedReply → Bool
 common Silence = true
 common Ack = true
 common AckAck = true
@@ -61,7 +62,7 @@ common DeviceId = true
 
 -- what has to be shown of such answers and of each change, Access Unprotect apart
 pub record Parts (P : Decision → Type 0) : Type 0 where
-  pub told : {t : Told} {n : Next} → T (common t) → Holds P (answer t n)
+  pub told : {t : FixedReply} {n : Next} → T (common t) → Holds P (answer t n)
   pub written : (r : Region) (at x : ℕ) → Holds P (alter Ack (Write r at x) (afterWrite r))
   pub erased : (x : ℕ) → Holds P (alter Ack (EraseSectors x) GoIdle)
   pub cleared : Holds P (alter Ack EraseAll GoIdle)

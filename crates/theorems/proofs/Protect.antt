@@ -17,7 +17,7 @@ use Rattle.memories.proofs.Memories.{proper-length}
 use Rattle.memories.proofs.Protected.{only-named, only-beside}
 use Rattle.command.specs.Decision.{if_gives_else_, answer}
 use Rattle.command.specs.declared.Next.the-variants.{Stay}
-use Rattle.command.specs.declared.Told.the-variants.{Silence}
+use Rattle.command.specs.declared.FixedReply.the-variants.{Silence}
 use Rattle.boot.specs.Causes.{accepts}
 use Rattle.boot.specs.Calls.{done, State, Input, Power, Byte, Framed, viewIn, causeFor, decide, perform, refused, call}
 use Rattle.theorems.specs.Failures.{acks, stagedAfter, countOfBytes, inProtect, toProtect, Protects, ExactlyNamed}

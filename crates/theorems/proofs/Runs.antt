@@ -12,7 +12,8 @@ use Rattle.boot.specs.Calls.{State, powered, Outcome, causeFor, decide, sent, p
 use Rattle.boot.specs.Promise.{Left, Leaves, outcome}
 use Rattle.boot.specs.declared.Session.{Session}
 use Rattle.command.specs.Says.{says}
-use Rattle.theorems.specs.Secrecy.{opens, isUnprotect, shut, Call, PowerOn, TakeByte, TakeFrame, input, inputs, leftBy, leaves, leavesOf, Seen, seen, seenOf, Alike}
+use Rattle.theorems.specs.Secrecy.{opens, isUnprotect, shut, Call, PowerOn, TakeByte, TakeFrame, input, inputs, leftBy, leaves, leavesOf, Seen}
+use Rattle.theorems.specs.Secrecy.{seen, seenOf, Alike}
 use Rattle.theorems.specs.Runs.{leftOn, Kept, boardIn, Ran, seenIn, endOf, RunsOnce, obeyed, shutIn, Demand3OfCode}
 use Rattle.theorems.proofs.Opening.{call-staged, opens-exactly}
 use Rattle.theorems.proofs.Secrecy.{secret}

@@ -25,12 +25,14 @@ use Rattle.uart.specs.Conversation.{uartRoom}
 use Rattle.can.specs.Conversation.{canRoom}
 use Rattle.boot.specs.Session.{after, progress, gathered}
 use Rattle.boot.specs.Causes.{causeNo, causeOf, accepts}
-use Rattle.boot.specs.Calls.{done, State, powered, Input, Power, Byte, Framed, Outcome, carrierOf, brings, commandsOf, viewIn, causeFor, decide, sent, perform, refused, call, run}
+use Rattle.boot.specs.Calls.{done, State, powered, Input, Power, Byte, Framed, Outcome, carrierOf, brings, commandsOf, viewIn, causeFor, decide, sent}
+use Rattle.boot.specs.Calls.{perform, refused, call, run}
 use Rattle.boot.specs.declared.Cause.{Cause}
 use Rattle.boot.specs.declared.Cause.the-variants.{Accepted}
 use Rattle.boot.specs.declared.Session.{Session}
 use Rattle.theorems.specs.Failures.{reads}
-use Rattle.theorems.specs.Secrecy.{unlocks, opens, shut, Call, input, inputs, lent, filled, leftBy, leaves, leavesOf, sums, answered, veiled, Seen, seen, seenOf, Alike, Demand3}
+use Rattle.theorems.specs.Secrecy.{unlocks, opens, shut, Call, input, inputs, lent, filled, leftBy, leaves, leavesOf, sums, answered, veiled}
+use Rattle.theorems.specs.Secrecy.{Seen, seen, seenOf, Alike, Demand3}
 use Rattle.theorems.proofs.InStep.{doneBy}
 use Rattle.theorems.proofs.Wire.{struck-exactly}
 use Rattle.theorems.proofs.Locked.{calm, harmless, Discreet, decide-discreet, after-calm, gathered-calm}

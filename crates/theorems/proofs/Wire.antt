@@ -22,8 +22,8 @@ use Rattle.command.specs.declared.Lookup.the-variants.{Known}
 use Rattle.command.specs.declared.Next.{Next}
 use Rattle.command.specs.declared.Reply.{Reply}
 use Rattle.command.specs.declared.Reply.the-variants.{Fixed, Data, Crc}
-use Rattle.command.specs.declared.Told.{Told}
-use Rattle.command.specs.declared.Told.the-variants.{Silence, Ack, AckAck, Nack, AckNack, Commands, Version, DeviceId}
+use Rattle.command.specs.declared.FixedReply.{FixedReply}
+use Rattle.command.specs.declared.FixedReply.the-variants.{Silence, Ack, AckAck, Nack, AckNack, Commands, Version, DeviceId}
 use Rattle.command.specs.declared.Why.{Why}
 use Rattle.rules.specs.Rules.{summing}
 use Rattle.uart.specs.Conversation as UC
@@ -107,7 +107,7 @@ module _ (i : Input) (s : Session) where
     locked = record { holds = tt };
   }
     where
-      told : {t : Told} {n : Next} → T (common t) → Holds MayBe (answer t n)
+      told : {t : FixedReply} {n : Next} → T (common t) → Holds MayBe (answer t n)
       told {t} h = record { holds = rw (holds-true (common t) h) tt }
 
 -- what is decided may be given, and so what is done

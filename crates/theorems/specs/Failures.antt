@@ -21,7 +21,7 @@ use Rattle.command.specs.Progress.{stagedWith}
 use Rattle.command.specs.Says.{says}
 use Rattle.command.specs.declared.Reply.{Reply}
 use Rattle.command.specs.declared.Reply.the-variants.{Fixed, Data, Crc}
-use Rattle.command.specs.declared.Told.the-variants.{Silence, Ack, AckAck, Nack, AckNack, Commands, Version, DeviceId}
+use Rattle.command.specs.declared.FixedReply.the-variants.{Silence, Ack, AckAck, Nack, AckNack, Commands, Version, DeviceId}
 use Rattle.uart.specs.Steps as U
 use Rattle.uart.specs.declared.Step as US
 use Rattle.can.specs.Steps as C

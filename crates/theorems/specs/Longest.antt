@@ -12,7 +12,8 @@ use Rattle.board.specs.Quantities.{largestCount}
 use Rattle.uart.specs.Conversation.{uartRoom}
 use Rattle.uart.specs.Steps.{stepOf, complementedByte, checkedAddress, oneByte, checkedCount, expectedFor, expectedForNumbers}
 use Rattle.uart.specs.declared.Step.{Step}
-use Rattle.uart.specs.declared.Step.the-variants.{Idle, ReadAddress, JumpAddress, WriteAddress, CrcAddress, ReadLength, WriteLength, WriteData, EraseSelector, SpecialCheck, EraseList, ProtectLength, ProtectList, CrcCount}
+use Rattle.uart.specs.declared.Step.the-variants.{Idle, ReadAddress, JumpAddress, WriteAddress, CrcAddress, ReadLength, WriteLength, WriteData}
+use Rattle.uart.specs.declared.Step.the-variants.{EraseSelector, SpecialCheck, EraseList, ProtectLength, ProtectList, CrcCount}
 use Rattle.boot.specs.Session.{on}
 use Rattle.boot.specs.Causes.{accepts}
 use Rattle.boot.specs.Calls.{State, Byte, causeFor, call, run}

@@ -8,7 +8,8 @@ use lib.ListN.{getD}
 use Rattle.board.specs.declared.Address.{Address}
 use Rattle.board.specs.declared.View.{View}
 use Rattle.command.specs.declared.Command.{Command}
-use Rattle.command.specs.declared.Command.the-variants.{GetCommands, GetVersion, GetDeviceId, ReadMemory, Jump, WriteMemory, Erase, ProgramProtect, ProgramUnprotect, AccessProtect, AccessUnprotect, FirmwareCrc, ResetDevice, Speed}
+use Rattle.command.specs.declared.Command.the-variants.{GetCommands, GetVersion, GetDeviceId, ReadMemory, Jump, WriteMemory, Erase, ProgramProtect}
+use Rattle.command.specs.declared.Command.the-variants.{ProgramUnprotect, AccessProtect, AccessUnprotect, FirmwareCrc, ResetDevice, Speed}
 use Rattle.command.specs.declared.Decision.{Decision}
 use Rattle.command.specs.declared.Lookup.{Lookup}
 use Rattle.command.specs.declared.Lookup.the-variants.{Known, Unknown}
@@ -20,7 +21,8 @@ use Rattle.rules.proofs.Good.{Good, told, refusal, reading-good, writing-good, 
 use Rattle.uart.specs.Conversation.{obeyed, commanded, addressed, keptIf, selected, complete}
 use Rattle.uart.specs.Steps.{expects, countIn, numbersIn}
 use Rattle.uart.specs.declared.Step.{Step}
-use Rattle.uart.specs.declared.Step.the-variants.{Idle, ReadAddress, JumpAddress, WriteAddress, CrcAddress, ReadLength, WriteLength, WriteData, EraseSelector, SpecialCheck, EraseList, ProtectLength, ProtectList, CrcCount}
+use Rattle.uart.specs.declared.Step.the-variants.{Idle, ReadAddress, JumpAddress, WriteAddress, CrcAddress, ReadLength, WriteLength, WriteData}
+use Rattle.uart.specs.declared.Step.the-variants.{EraseSelector, SpecialCheck, EraseList, ProtectLength, ProtectList, CrcCount}
 use Rattle.uart.proofs.Steps.{counted, numbered}
 
 module _ (bytes : List ℕ) where

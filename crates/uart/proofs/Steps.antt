@@ -12,7 +12,8 @@ use Rattle.uart.specs.Steps.{stepNo, steps, stepOf, expects}
 use denote.Enum.Declared.{tagOf}
 use Rattle.uart.proofs.Step.{the-type}
 use Rattle.uart.specs.declared.Step.{Step}
-use Rattle.uart.specs.declared.Step.the-variants.{Idle, ReadAddress, JumpAddress, WriteAddress, CrcAddress, ReadLength, WriteLength, WriteData, EraseSelector, SpecialCheck, EraseList, ProtectLength, ProtectList, CrcCount}
+use Rattle.uart.specs.declared.Step.the-variants.{Idle, ReadAddress, JumpAddress, WriteAddress, CrcAddress, ReadLength, WriteLength, WriteData}
+use Rattle.uart.specs.declared.Step.the-variants.{EraseSelector, SpecialCheck, EraseList, ProtectLength, ProtectList, CrcCount}
 
 pub in-order : map stepNo steps ≡ countFrom 0 (length steps)
 in-order = refl

@@ -16,19 +16,22 @@ use Rattle.command.specs.Commands.{code, uartCommands, lookUp}
 use Rattle.command.specs.Decision.{if_gives_else_, answer, alter, nack, judged}
 use Rattle.command.specs.Progress.{Progress, stagedWith, short}
 use Rattle.command.specs.declared.Command.{Command}
-use Rattle.command.specs.declared.Command.the-variants.{GetCommands, GetVersion, GetDeviceId, ReadMemory, Jump, WriteMemory, Erase, ProgramProtect, ProgramUnprotect, AccessProtect, AccessUnprotect, FirmwareCrc, ResetDevice, Speed}
+use Rattle.command.specs.declared.Command.the-variants.{GetCommands, GetVersion, GetDeviceId, ReadMemory, Jump, WriteMemory, Erase, ProgramProtect}
+use Rattle.command.specs.declared.Command.the-variants.{ProgramUnprotect, AccessProtect, AccessUnprotect, FirmwareCrc, ResetDevice, Speed}
 use Rattle.command.specs.declared.Decision.{Decision}
 use Rattle.command.specs.declared.Lookup.{Lookup}
 use Rattle.command.specs.declared.Lookup.the-variants.{Known, Unknown}
 use Rattle.command.specs.declared.Next.the-variants.{Gather, GoIdle, Enter, EnterAt}
-use Rattle.command.specs.declared.Told.the-variants.{Silence, Ack, Commands, Version, DeviceId}
+use Rattle.command.specs.declared.FixedReply.the-variants.{Silence, Ack, Commands, Version, DeviceId}
 use Rattle.command.specs.declared.Why.the-variants.{BadComplement, UnknownCommand, BadChecksum, BadAddress, BadRange}
-use Rattle.rules.specs.Rules.{unlessProtected, telling, reading, writing, selectorOf, erasing, eraseAllVerdict, protecting, releasing, locking, unlocking, resetting, jumping, summing}
+use Rattle.rules.specs.Rules.{unlessProtected, telling, reading, writing, selectorOf, erasing, eraseAllVerdict, protecting, releasing, locking}
+use Rattle.rules.specs.Rules.{unlocking, resetting, jumping, summing}
 use Rattle.rules.specs.declared.Selector.{Selector}
 use Rattle.rules.specs.declared.Selector.the-variants.{Listed, Special, Impossible}
 use Rattle.uart.specs.Steps.{stepNo, complementedByte, checkedAddress, oneByte, checkedCount, expectedFor, countIn, expectedForNumbers, numbersIn}
 use Rattle.uart.specs.declared.Step.{Step}
-use Rattle.uart.specs.declared.Step.the-variants.{Idle, ReadAddress, JumpAddress, WriteAddress, CrcAddress, ReadLength, WriteLength, WriteData, EraseSelector, SpecialCheck, EraseList, ProtectLength, ProtectList, CrcCount}
+use Rattle.uart.specs.declared.Step.the-variants.{Idle, ReadAddress, JumpAddress, WriteAddress, CrcAddress, ReadLength, WriteLength, WriteData}
+use Rattle.uart.specs.declared.Step.the-variants.{EraseSelector, SpecialCheck, EraseList, ProtectLength, ProtectList, CrcCount}
 
 -- the room that a reply buffer must have: 257
 abbrev pub uartRoom : ℕ

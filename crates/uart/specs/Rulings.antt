@@ -14,13 +14,14 @@ use Rattle.command.specs.Decision.{answer, alter, show, nack}
 use Rattle.command.specs.declared.Decision.{Decision}
 use Rattle.command.specs.declared.Next.the-variants.{Reset, GoIdle, Enter, EnterAt, Run}
 use Rattle.command.specs.declared.Reply.the-variants.{Data, Crc}
-use Rattle.command.specs.declared.Told.the-variants.{Silence, Ack, AckAck}
+use Rattle.command.specs.declared.FixedReply.the-variants.{Silence, Ack, AckAck}
 use Rattle.command.specs.declared.Why.the-variants.{BadComplement, UnknownCommand, AccessProtected, BadChecksum, BadAddress, BadRange, UnsupportedErase}
 use Rattle.rules.specs.Rulings.{Ruling, _is_, Ruled, fresh, locked}
 use Rattle.uart.specs.Conversation.{commandBytes, heard}
 use Rattle.uart.specs.Steps.{stepNo, steps, stepOf, expects, expectedFor, countIn, expectedForNumbers, numbersIn}
 use Rattle.uart.specs.declared.Step.{Step}
-use Rattle.uart.specs.declared.Step.the-variants.{Idle, ReadAddress, JumpAddress, CrcAddress, ReadLength, WriteLength, WriteData, EraseSelector, SpecialCheck, EraseList, ProtectList, CrcCount}
+use Rattle.uart.specs.declared.Step.the-variants.{Idle, ReadAddress, JumpAddress, CrcAddress, ReadLength, WriteLength, WriteData, EraseSelector}
+use Rattle.uart.specs.declared.Step.the-variants.{SpecialCheck, EraseList, ProtectList, CrcCount}
 
 -- the last byte of a step comes in: the bytes before it, the address, the view
 abbrev pub last : Step → List ℕ → ℕ → View → Decision

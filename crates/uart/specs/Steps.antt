@@ -7,7 +7,8 @@ use lib.Dec.{eqb, leb}
 use Rattle.board.specs.Board.{sectors}
 use Rattle.board.specs.Quantities.{largestCount, addressBytes, selectorBytes, longCountBytes, numbersBytes}
 use Rattle.uart.specs.declared.Step.{Step}
-use Rattle.uart.specs.declared.Step.the-variants.{Idle, ReadAddress, JumpAddress, WriteAddress, CrcAddress, ReadLength, WriteLength, WriteData, EraseSelector, SpecialCheck, EraseList, ProtectLength, ProtectList, CrcCount}
+use Rattle.uart.specs.declared.Step.the-variants.{Idle, ReadAddress, JumpAddress, WriteAddress, CrcAddress, ReadLength, WriteLength, WriteData}
+use Rattle.uart.specs.declared.Step.the-variants.{EraseSelector, SpecialCheck, EraseList, ProtectLength, ProtectList, CrcCount}
 
 -- the number of each step, idle first, then as listed
 abbrev pub stepNo : Step → ℕ

@@ -6,15 +6,15 @@ ghost use Rattle.board.specs.Regions.{known, sectorStart};
 ghost use Rattle.memories.specs.Effects.{stagedBytes};
 ghost use Rattle.command.specs.Decision.{if_gives_else_, answer, nack};
 ghost use Rattle.command.specs.declared.Next.the-variants.{EnterAt};
-ghost use Rattle.command.specs.declared.Told.the-variants.{Ack};
+ghost use Rattle.command.specs.declared.FixedReply.the-variants.{Ack};
 ghost use Rattle.command.specs.declared.Why.the-variants.{BadAddress, BadChecksum};
 ghost use Rattle.rules.specs.Rules.{jumping};
 ghost use Rattle.uart.specs.Steps.{stepNo};
 ghost use Rattle.uart.specs.Conversation.{checks, addressed, keptIf};
 use board::Address;
 use command::Decision;
+use command::FixedReply;
 use command::Next;
-use command::Told;
 use command::Why;
 use rules_code::sent;
 use uart::Step;
@@ -35,7 +35,10 @@ fn kept(good: bool, step: Step, expected: usize, address: Address) -> Decision
 {
     command::accept_if(
         good,
-        command::answer(Told::Ack, Next::EnterAt(step.number(), expected, address.0)),
+        command::answer(
+            FixedReply::Ack,
+            Next::EnterAt(step.number(), expected, address.0),
+        ),
         Why::BadAddress,
     )
 }

@@ -12,18 +12,18 @@ ghost use Rattle.board.specs.Quantities.{largestCount, selectorBytes};
 ghost use Rattle.memories.specs.Effects.{stagedBytes};
 ghost use Rattle.command.specs.Decision.{if_gives_else_, answer};
 ghost use Rattle.command.specs.declared.Next.the-variants.{Gather};
-ghost use Rattle.command.specs.declared.Told.the-variants.{Silence};
+ghost use Rattle.command.specs.declared.FixedReply.the-variants.{Silence};
 ghost use Rattle.uart.specs.Steps.{stepOf, expects, complementedByte, oneByte, checkedCount, expectedFor, expectedForNumbers};
 ghost use Rattle.uart.specs.Conversation.{awaits, selected, complete};
 use board::Address;
 use board::View;
 use command::Decision;
+use command::FixedReply;
 use command::Next;
-use command::Told;
 use command::Why;
-use rules_code::sent;
 use memories::Change;
 use rules::Selector;
+use rules_code::sent;
 use uart::Step;
 
 // The byte with which the checksum of Firmware CRC's count begins.
@@ -35,7 +35,7 @@ fn awaits(step: Step, bytes: &[u8]) -> Decision
     ensures { λ r. ⌜ r ≡ awaits step (now (bytes .entry)) ⌝ }
 {
     command::answer(
-        Told::Silence,
+        FixedReply::Silence,
         Next::Enter(step.number(), sent::count_of(bytes[0]) + 1),
     )
 }
@@ -47,12 +47,12 @@ fn selected(selector: Selector) -> Decision
     match selector {
         Selector::Listed(sent) => {
             command::answer(
-                Told::Silence,
+                FixedReply::Silence,
                 Next::Enter(Step::EraseList.number(), 2 * sent.count() + 1),
             )
         }
         Selector::Special(number) => command::answer(
-            Told::Silence,
+            FixedReply::Silence,
             Next::EnterAt(Step::SpecialCheck.number(), uart::ONE_BYTE, number as u32),
         ),
         Selector::Impossible => command::nack(Why::BadRange),
@@ -113,7 +113,7 @@ fn special_ends(view: View, address: u32, bytes: &[u8]) -> Decision
         checksum::special_checks(address, bytes[0]),
         command::judged(
             list_rules_code::erase::erase_all_verdict(view, address),
-            command::alter(Told::Ack, Change::EraseAll, Next::GoIdle),
+            command::alter(FixedReply::Ack, Change::EraseAll, Next::GoIdle),
         ),
         Why::BadChecksum,
     )
@@ -198,7 +198,7 @@ pub fn heard(
 {
     let more = taken + 1 < expected;
     if more {
-        command::answer(Told::Silence, Next::Gather)
+        command::answer(FixedReply::Silence, Next::Gather)
     } else {
         complete(Step::of(step), expected, address, bytes, view)
     }

@@ -5,9 +5,9 @@ ghost use Rattle.uart.specs.Conversation.{goOn, obeyed, commanded};
 use board::View;
 use command::Command;
 use command::Decision;
+use command::FixedReply;
 use command::Lookup;
 use command::Next;
-use command::Told;
 use command::Why;
 use command::code;
 use rules_code::at_once;
@@ -29,7 +29,7 @@ pub fn look_up(byte: u8) -> Lookup
 fn go_on(step: Step, expected: usize) -> Decision
     ensures { λ r. ⌜ r ≡ goOn step expected ⌝ }
 {
-    command::answer(Told::Ack, Next::Enter(step.number(), expected))
+    command::answer(FixedReply::Ack, Next::Enter(step.number(), expected))
 }
 
 // A command's ACK, with what it asks for.
@@ -37,9 +37,9 @@ fn obeyed(command: Command) -> Decision
     ensures { λ r. ⌜ r ≡ obeyed command ⌝ }
 {
     match command {
-        Command::GetCommands => at_once::tell(Told::Commands),
-        Command::GetVersion => at_once::tell(Told::Version),
-        Command::GetDeviceId => at_once::tell(Told::DeviceId),
+        Command::GetCommands => at_once::tell(FixedReply::Commands),
+        Command::GetVersion => at_once::tell(FixedReply::Version),
+        Command::GetDeviceId => at_once::tell(FixedReply::DeviceId),
         Command::ReadMemory => go_on(Step::ReadAddress, uart::CHECKED_ADDRESS),
         Command::Jump => go_on(Step::JumpAddress, uart::CHECKED_ADDRESS),
         Command::WriteMemory => go_on(Step::WriteAddress, uart::CHECKED_ADDRESS),

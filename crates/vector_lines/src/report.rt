@@ -9,10 +9,10 @@ use crate::FIELDS;
 use crate::wide;
 use boot::Session;
 use boot::Taken;
+use desk_written::first::LINE_FEED;
 use libc::STDOUT_FILENO;
 use numbers::LONG;
 use numbers::SHORT;
-use desk_written::first::LINE_FEED;
 
 // The modulus of a digest's two sums, and how many bits each takes.
 const MODULUS: u64 = 65521;

@@ -99,6 +99,12 @@ pub fn session(vector: &[u8; BYTES]) -> Session {
     words::copy(&mut staged, 0, vector, STAGED_FRONT, STAGED_GIVEN);
     let mut lent = [0u8; session_bytes::LENGTH];
     words::copy(&mut lent, 0, vector, 0, session_bytes::STAGED);
-    words::copy(&mut lent, session_bytes::STAGED, &staged, 0, memories::STAGED);
+    words::copy(
+        &mut lent,
+        session_bytes::STAGED,
+        &staged,
+        0,
+        memories::STAGED,
+    );
     session_bytes::read(&lent)
 }
