@@ -27,8 +27,8 @@ pub record Continues {A : Type 0} (rest : Told A) (from : ℕ) (out : List ℕ) 
   pub text : put out from (rest .text) ≡ put before at (whole .text)
   pub state : rest .state ≡ whole .state
 
--- a session takes the first characters of some hex bytes, n of them, at once: nothing is told of these, and another session is left, by whatever
--- memories that have their lengths or, as is said, have not
+-- a session takes the first characters of some hex bytes, n of them, at once: nothing is told of these, and another session is left, whatever the
+-- memories hold; whether these have their lengths is given
 pub record Passes (s : Session) (right : Bool) (rest : List ℕ) (next : Session) (n : ℕ) : Type 0 where
   pub within : n ≤ length rest
   pub left : T (areFields (drop n rest))

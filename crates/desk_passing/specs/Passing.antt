@@ -34,8 +34,8 @@ nods (suc n) = answered ∷ lineFeed ∷ nods n
 abbrev pub behind : {A : Type 0} → List ℕ → Told A → Told A
 behind l t = record { text = l ++ t .text; state = t .state }
 
--- the first n characters of a text are lines of frames that are only gathered, and leave another session, by whatever memories that have their
--- lengths or, as is said, have not
+-- the first n characters of a text are lines of frames that are only gathered, and leave another session, whatever the memories hold; whether these
+-- have their lengths is given
 pub record PassesLines (s : Session) (right : Bool) (text : List ℕ) (next : Session) (lines n : ℕ) : Type 0 where
   pub within : n ≤ length text
   pub few : lines + lines ≤ n
