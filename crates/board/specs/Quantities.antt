@@ -1,4 +1,4 @@
--- A sector number, a byte address and a count sent as one less: separate quantities, each converted here and nowhere else.
+-- A sector number, a byte address and a count sent as one less: separate quantities, converted in this crate alone.
 use Prim.Native.Nat.{ℕ, _+_, _-_, _*_, _/_, _%_}
 use mathlib.Core.Bool.{Bool}
 use mathlib.Core.List.{List, [], _∷_, map}
@@ -6,7 +6,7 @@ use lib.ListN.{take, getD}
 use lib.Dec.{eqb, ltb}
 use Rattle.words.specs.Bytes.{number}
 use Rattle.words.specs.Lists.{any, countFrom, pairs}
-use Rattle.board.specs.Board.{sectors}
+use Rattle.board.specs.Board.{address, sectors}
 use Rattle.board.specs.declared.Address.{Address}
 use Rattle.board.specs.declared.Extent.{Extent}
 use Rattle.board.specs.declared.LessOne.{LessOne}
@@ -40,6 +40,13 @@ selectorBytes = 2
 
 abbrev pub longCountBytes : ℕ
 longCountBytes = 2
+
+-- the address that bytes begin with, and the count that bytes send as one less
+abbrev pub addressIn : List ℕ → Address
+addressIn bytes = address (number (take addressBytes bytes))
+
+abbrev pub countSent : List ℕ → ℕ
+countSent bytes = countOf (lessOne (number bytes))
 
 -- the sector of this number
 abbrev pub sector : ℕ → Sector

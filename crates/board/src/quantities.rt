@@ -1,4 +1,4 @@
-// The board's quantities, each converted here and nowhere else: sector numbers, byte addresses, counts sent as one less.
+// Sector numbers, byte addresses and counts sent as one less, each conversion once.
 ghost use mathlib.Core.Path.{_≡_};
 ghost use Prim.Native.Nat.{_+_, _≤_, _<_};
 ghost use lib.ListN.{length};

@@ -70,7 +70,7 @@ entered c step e a s = inStep (carrierNo c) step (progressAt 0 e a noBytes) s
 abbrev pub idle : Carrier → Session → Session
 idle c s = entered c 0 (idleExpects c) 0 s
 
--- at rest on a carrier, with an address, and every other number as fresh; whatever else a session gains outlives this
+-- at rest on a carrier, with an address, and every other number as fresh; what is to outlive a reset is kept by `entered` and `atSpeed`
 abbrev pub rested : Carrier → ℕ → Session → Session
 rested c a s = atSpeed freshSpeed (entered c 0 resting a s)
 

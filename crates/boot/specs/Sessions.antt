@@ -7,6 +7,7 @@ use Rattle.command.specs.Progress.{progressAt}
 use Rattle.command.specs.declared.Next.{Next}
 use Rattle.command.specs.declared.Next.the-variants.{Stay, Reset, Gather, GoIdle, SetSpeed, Enter, EnterAt, Run}
 use Rattle.boot.specs.Session.{sessionOf, fresh, gathered, after}
+use Rattle.carriers.specs.declared.Carrier.{Carrier}
 use Rattle.carriers.specs.declared.Carrier.the-variants.{Uart, Can}
 use Rattle.boot.specs.declared.Session.{Session}
 
@@ -31,8 +32,8 @@ pub record Sessions : Type 0 where
   pub connected : numbers (after Uart fresh GoIdle fresh) ≡ 1 ∷ 0 ∷ 0 ∷ 2 ∷ 0 ∷ 2 ∷ 0 ∷ 0 ∷ 0 ∷ 0 ∷ []
   -- no change
   pub stays : follows Stay ≡ 2 ∷ 1 ∷ 1 ∷ 3 ∷ 0x08000000 ∷ 1 ∷ 0xAA ∷ 0 ∷ 0 ∷ 0 ∷ []
-  -- reset makes the session fresh
-  pub resets : follows Reset ≡ numbers fresh
+  -- reset makes every session fresh
+  pub resets : (c : Carrier) (held s : Session) → after c held Reset s ≡ fresh
   -- each byte taken is put at index taken, and extra bytes are not staged
   pub gathers : follows Gather ≡ 2 ∷ 1 ∷ 3 ∷ 3 ∷ 0x08000000 ∷ 1 ∷ 0xAA ∷ 0x0F ∷ 0x55 ∷ 0 ∷ []
   -- going idle keeps the speed, sets the address 0

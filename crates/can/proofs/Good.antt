@@ -4,7 +4,7 @@ use Prim.Native.Nat.{ℕ, _<_}
 use native.Mathlib.Omega.{arith}
 use lib.Dec.{T, eqb→eq}
 use lib.ListN.{length, getD, drop}
-use Rattle.board.specs.Quantities.{addressBytes}
+use Rattle.board.specs.Quantities.{addressBytes, countSent}
 use Rattle.board.specs.declared.View.{View}
 use Rattle.command.specs.Progress.{Progress, progressAt, stagedWith}
 use Rattle.command.specs.declared.Command.{Command}
@@ -20,7 +20,7 @@ use Rattle.rules.specs.declared.Selector.{Selector}
 use Rattle.rules.specs.declared.Selector.the-variants.{Listed, Special, Impossible}
 use Rattle.rules.proofs.Unless.{unless-either}
 use Rattle.rules.proofs.Good.{Good, told, refusal, reading-good, writing-good, erasing-good, protecting-good, jumping-good, summing-good}
-use Rattle.can.specs.Conversation.{dlcFits, countSent, erasedOrNot, selected, obeyed, commanded, gathering, unlessExtra, decided, heard}
+use Rattle.can.specs.Conversation.{dlcFits, erasedOrNot, selected, obeyed, commanded, gathering, unlessExtra, decided, heard}
 use Rattle.frames.specs.Frames.{Frame, carried, counted}
 use Rattle.can.specs.Steps.{expects, numbersIn}
 use Rattle.can.specs.declared.Step.{Step}

@@ -2,12 +2,11 @@
 use Prim.Native.Nat.{ℕ, _+_}
 use mathlib.Core.Bool.{Bool, true, false, not, _||_}
 use mathlib.Core.List.{List, _∷_, map}
-use lib.ListN.{length, getD, take, drop}
+use lib.ListN.{length, getD, drop}
 use lib.Dec.{eqb, leb}
 use Rattle.words.specs.Bytes.{number}
 use Rattle.board.specs.Board.{address, identity}
-use Rattle.board.specs.Quantities.{countOf, lessOne, oneLess, addressBytes, selectorBytes, longCountBytes}
-use Rattle.board.specs.declared.Address.{Address}
+use Rattle.board.specs.Quantities.{countOf, oneLess, addressIn, countSent, addressBytes, selectorBytes, longCountBytes}
 use Rattle.board.specs.declared.View.{View}
 use Rattle.memories.specs.declared.Change.the-variants.{EraseAll}
 use Rattle.command.specs.Commands.{code, canCommands, lookUp}
@@ -70,14 +69,6 @@ dlcFits Speed n = eqb n 2
 abbrev pub dlcRight : Lookup → ℕ → Bool
 dlcRight (Known c) n = dlcFits c n
 dlcRight Unknown n = false
-
--- the address that a command frame's data begin with
-abbrev pub addressIn : List ℕ → Address
-addressIn d = address (number (take addressBytes d))
-
--- the count, sent as one less, that data bytes write
-abbrev pub countSent : List ℕ → ℕ
-countSent d = countOf (lessOne (number d))
 
 -- special erases: ACK, then ACK or NACK
 unfoldable pub erasedOrNot : Verdict → Decision

@@ -35,7 +35,7 @@ gathers s taken expected a t =
 -- frames of each command, and of each step that gathers
 abbrev pub rulings : List Ruling
 rulings =
-    (command "00 11 05 08 00 00 00 03 00 00 00" fresh is show (Data Flash 0 4))
+    (command "00 11 05 08 00 00 00 03 00 00 00" fresh is show (Data Flash 0 4) GoIdle)
     ∷ (command "00 11 04 08 00 00 00 03 00 00 00" fresh is nack BadComplement)
     ∷ (command "00 11 05 08 00 00 00 03 00 00 00" locked is nack AccessProtected)
     ∷ (command "07 FF 00 00 00 00 00 00 00 00 00" fresh is nack UnknownCommand)
@@ -46,7 +46,7 @@ rulings =
     ∷ (command "00 44 02 FF FF 00 00 00 00 00 00" fresh is alter AckAck EraseAll GoIdle)
     ∷ (command "00 44 02 FF FB 00 00 00 00 00 00" fresh is answer (AckNack UnsupportedErase) GoIdle)
     ∷ (command "00 63 01 01 00 00 00 00 00 00 00" fresh is answer Ack (Enter (stepNo ProtectList) 2))
-    ∷ (command "00 AC 06 08 00 7C 00 00 00 00 00" fresh is show (Crc 31744 1024))
+    ∷ (command "00 AC 06 08 00 7C 00 00 00 00 00" fresh is show (Crc 31744 1024) GoIdle)
     ∷ (command "00 03 02 03 FF 00 00 00 00 00 00" fresh is answer AckAck (SetSpeed 3))
     ∷ (command "00 03 02 04 00 00 00 00 00 00 00" fresh is nack BadSpeed)
     ∷ (gathers WriteData 0 3 0x08000000 "00 31 08 01 02 03 04 05 06 07 08" is alter Ack (Write Flash 0 3) GoIdle)

@@ -15,6 +15,7 @@ ghost use Rattle.can.specs.Steps.{stepNo, stepOf, expects};
 ghost use Rattle.can.specs.Conversation.{bears, canRoom};
 use board::Board;
 use board::LessOne;
+use board::Sector;
 use command::Decision;
 use command::FixedReply;
 use command::Next;
@@ -81,7 +82,9 @@ impl Step {
         match self {
             Step::Idle => n == ONE_FRAME,
             Step::WriteData => (1 <= n) & (n <= LessOne::LARGEST),
-            Step::EraseList => (2 <= n) & (n <= 2 * Board::SECTORS) & (n % 2 == 0),
+            Step::EraseList => (Sector::NUMBER_BYTES <= n)
+                & (n <= Sector::NUMBER_BYTES * Board::SECTORS)
+                & (n % Sector::NUMBER_BYTES == 0),
             Step::ProtectList => (1 <= n) & (n <= LessOne::LARGEST),
         }
     }

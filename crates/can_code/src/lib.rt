@@ -14,6 +14,7 @@ ghost use Rattle.frames.specs.Frames.{classic, frameOf};
 ghost use Rattle.can.specs.Steps.{stepOf, expects, expectedForNumbers};
 ghost use Rattle.can.specs.Conversation.{decided};
 use board::Address;
+use board::Sector;
 use board::View;
 use can::Step;
 use command::Decision;
@@ -54,7 +55,7 @@ fn erase_frame(
         × (length (now carried) ≤ classic .largest) ⌝ }
     ensures { λ r. ⌜ r ≡ decided Step.EraseList (progressAt taken expected 0 (now (bytes .entry))) view (frameOf id (now (carried .entry))) ⌝ }
 {
-    let done = list_rules_code::erase::erase(view, bytes, expected / 2);
+    let done = list_rules_code::erase::erase(view, bytes, expected / Sector::NUMBER_BYTES);
     can::gathering(
         code::ERASE,
         taken,

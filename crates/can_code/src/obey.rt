@@ -5,6 +5,7 @@ ghost use lib.ListN.{length};
 ghost use Rattle.command.specs.Commands.{canCommands, lookUp};
 ghost use Rattle.command.specs.declared.Command.the-variants.{ReadMemory, WriteMemory, Erase, ProgramProtect, FirmwareCrc, Speed};
 ghost use Rattle.can.specs.Conversation.{dlcFits, dlcRight, erasedOrNot, selected, obeyed, commanded};
+use board::Sector;
 use board::View;
 use can::LARGEST_SPEED;
 use can::Step;
@@ -103,7 +104,10 @@ fn selected(view: View, selector: Selector) -> Decision
     match selector {
         Selector::Listed(sent) => command::answer(
             FixedReply::Ack,
-            Next::Enter(Step::EraseList.number(), 2 * sent.count()),
+            Next::Enter(
+                Step::EraseList.number(),
+                Sector::NUMBER_BYTES * sent.count(),
+            ),
         ),
         Selector::Special(number) => {
             erased_or_not(list_rules_code::erase::erase_all_verdict(view, number as u32))

@@ -27,9 +27,9 @@ answer t n = record { reply = Fixed t; change = Nothing; next = n }
 abbrev pub alter : FixedReply → Change → Next → Decision
 alter t c n = record { reply = Fixed t; change = c; next = n }
 
--- what is read from a memory, after which the session is idle
-abbrev pub show : Reply → Decision
-show r = record { reply = r; change = Nothing; next = GoIdle }
+-- what is read from a memory and what becomes of the session; the memories stay
+abbrev pub show : Reply → Next → Decision
+show r n = record { reply = r; change = Nothing; next = n }
 
 -- after a NACK the session is idle
 abbrev pub nack : Why → Decision

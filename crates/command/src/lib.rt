@@ -117,14 +117,14 @@ pub fn alter(told: FixedReply, change: Change, next: Next) -> Decision
     }
 }
 
-// What is read from a memory, after which the session is idle.
-pub fn show(reply: Reply) -> Decision
-    ensures { λ r. ⌜ r ≡ show reply ⌝ }
+// What is read from a memory, and what becomes of the session; the memories stay.
+pub fn show(reply: Reply, next: Next) -> Decision
+    ensures { λ r. ⌜ r ≡ show reply next ⌝ }
 {
     Decision {
         reply: reply,
         change: Change::Nothing,
-        next: Next::GoIdle,
+        next: next,
     }
 }
 

@@ -1,4 +1,4 @@
-// What desk answers to a line, which specs/ says; here are the characters that begin an answer.
+// What desk answers to a line, and to a whole input, which specs/ says.
 pub mod held;
 
 // The characters that begin an answer.

@@ -1,4 +1,4 @@
-// Takes characters in one by one, and answers each line as it ends.
+// Takes characters in, and answers each line as it ends.
 ghost use mathlib.Core.Path.{_≡_};
 ghost use Prim.Native.Nat.{_+_, _*_, _^_, _≤_, _<_};
 ghost use lib.ListN.{length, take, drop};

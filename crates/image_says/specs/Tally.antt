@@ -6,6 +6,7 @@ use lib.Dec.{eqb}
 use Rattle.words.specs.Choice.{if_then_else_}
 use Rattle.words.specs.Lists.{any, countFrom, part}
 use Rattle.board.specs.Board.{sectors}
+use Rattle.board.specs.Quantities.{bytesIn}
 use Rattle.loading.specs.Loads.{mark}
 use Rattle.image_says.specs.declared.Tally.{Tally}
 
@@ -19,7 +20,7 @@ howMany f (x ∷ xs) = one (f x) + howMany f xs
 
 -- some byte of a sector is marked
 abbrev pub inSector : List ℕ → ℕ → Bool
-inSector touched k = any (eqb mark) (part (k * sectors .bytes) (sectors .bytes) touched)
+inSector touched k = any (eqb mark) (part (bytesIn k) (sectors .bytes) touched)
 
 -- how many bytes are marked, and in how many sectors
 unfoldable pub tallyOf : List ℕ → Tally

@@ -41,7 +41,11 @@ fn sectors(touched: &[u8]) -> usize
     let mut count = 0;
     let mut k = 0;
     while k < Board::SECTORS {
-        count += one(judging::any_touched(touched, k * Board::SECTOR_BYTES, Board::SECTOR_BYTES));
+        count += one(judging::any_touched(
+            touched,
+            board::quantities::bytes_in(k),
+            Board::SECTOR_BYTES,
+        ));
         k += 1;
     }
     count

@@ -1,4 +1,4 @@
-// Writes a reply, said in full or read from a memory.
+// Writes a reply: what is fixed, or what is read from a memory.
 pub mod in_bytes;
 pub mod in_frames;
 

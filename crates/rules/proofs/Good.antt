@@ -34,7 +34,7 @@ module _ (staged : List ℕ) where
   pub told : {t : FixedReply} {n : Next} → Holds (Good staged) (answer t n)
   told = record { holds = record { sayable = tt; fits = tt } }
 
-  shown : {r : Reply} → T (sayable r) → Holds (Good staged) (show r)
+  shown : {r : Reply} {n : Next} → T (sayable r) → Holds (Good staged) (show r n)
   shown h = record { holds = record { sayable = h; fits = tt } }
 
   -- a change that fits

@@ -29,7 +29,7 @@ use Rattle.rules.specs.Rules.{readAt, reading, afterWrite, writeAt, writ
 
 module _ (P : Decision → Type 0) (refusal : (w : Why) → Holds P (nack w)) where
   -- bytes are read or written at the place that they have
-  pub reading-made : (a : Address) (x : ℕ) → ((r : Region) (at : ℕ) → placeOf a x ≡ In r at → Holds P (show (Data r at x)))
+  pub reading-made : (a : Address) (x : ℕ) → ((r : Region) (at : ℕ) → placeOf a x ≡ In r at → Holds P (show (Data r at x) GoIdle))
       → Holds P (reading a x)
   unfolding reading readAt
   reading-made a x f = either P _ (by-place (placeOf a x) refl) (refusal _)
@@ -74,7 +74,7 @@ module _ (P : Decision → Type 0) (refusal : (w : Why) → Holds P (nack w)) wh
   jumping-made a h = either P _ h (refusal _)
 
   -- a checksum is over flash
-  pub summing-made : (a : Address) (x : ℕ) → ((at : ℕ) → placeOf a (bytesIn x) ≡ In Flash at → Holds P (show (Crc at (bytesIn x))))
+  pub summing-made : (a : Address) (x : ℕ) → ((at : ℕ) → placeOf a (bytesIn x) ≡ In Flash at → Holds P (show (Crc at (bytesIn x)) GoIdle))
       → Holds P (summing a x)
   unfolding summing sumAt
   summing-made a x f = either P _ (by-place (placeOf a (bytesIn x)) refl) (refusal _)

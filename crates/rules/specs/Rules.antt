@@ -42,7 +42,7 @@ telling t = answer t GoIdle
 
 -- 0x11: an address in no region, and a range that leaves its region, are refused
 unfoldable pub readAt : Place → ℕ → Decision
-readAt (In r at) x = show (Data r at x)
+readAt (In r at) x = show (Data r at x) GoIdle
 readAt Nowhere x = nack BadRange
 
 unfoldable pub reading : Address → ℕ → Decision
@@ -134,7 +134,7 @@ jumping a = if jumpable a gives answer Ack (Run (a .0)) else nack BadAddress
 
 -- 0xAC: whole sectors, from a sector's start, all inside flash (a sector's start is never in SRAM or USD)
 unfoldable pub sumAt : Place → ℕ → Decision
-sumAt (In Flash at) n = show (Crc at n)
+sumAt (In Flash at) n = show (Crc at n) GoIdle
 sumAt (In Sram at) n = nack BadRange
 sumAt (In Usd at) n = nack BadRange
 sumAt Nowhere n = nack BadRange

@@ -1,9 +1,10 @@
-// Memory Read, 0x11.
+// Read Memory, 0x11.
 ghost use mathlib.Core.Path.{_≡_};
 ghost use Rattle.rules.specs.Rules.{readAt, reading};
 use board::Address;
 use board::Place;
 use command::Decision;
+use command::Next;
 use command::Reply;
 use command::Why;
 
@@ -12,7 +13,7 @@ fn read_at(place: Place, x: usize) -> Decision
     ensures { λ r. ⌜ r ≡ readAt place x ⌝ }
 {
     match place {
-        Place::In(region, at) => command::show(Reply::Data(region, at, x)),
+        Place::In(region, at) => command::show(Reply::Data(region, at, x), Next::GoIdle),
         Place::Nowhere => command::nack(Why::BadRange),
     }
 }

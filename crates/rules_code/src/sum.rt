@@ -1,4 +1,4 @@
-// 0xAC: the checksum of whole sectors of flash.
+// Firmware CRC, 0xAC.
 ghost use mathlib.Core.Path.{_≡_};
 ghost use Prim.Native.Nat.{_≤_};
 ghost use Rattle.board.specs.Quantities.{largestLongCount};
@@ -7,6 +7,7 @@ use board::Address;
 use board::Place;
 use board::Region;
 use command::Decision;
+use command::Next;
 use command::Reply;
 use command::Why;
 
@@ -16,7 +17,7 @@ fn sum_at(place: Place, n: usize) -> Decision
 {
     match place {
         Place::In(region, at) => match region {
-            Region::Flash => command::show(Reply::Crc(at, n)),
+            Region::Flash => command::show(Reply::Crc(at, n), Next::GoIdle),
             _ => command::nack(Why::BadRange),
         },
         Place::Nowhere => command::nack(Why::BadRange),

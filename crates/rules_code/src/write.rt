@@ -1,4 +1,4 @@
-// Memory Write, 0x31.
+// Write Memory, 0x31.
 ghost use mathlib.Core.Path.{_≡_};
 ghost use Prim.Native.Nat.{_+_, _≤_, _<_};
 ghost use Rattle.words.specs.Lists.{any};

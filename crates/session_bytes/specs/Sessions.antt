@@ -9,14 +9,11 @@ use Rattle.words.specs.Bytes.{number, fourBytes}
 use Rattle.words.specs.Lists.{part}
 use Rattle.numbers.specs.Numbers.{shortBytes, longBytes, eightBytes}
 use Rattle.memories.specs.Effects.{stagedBytes}
+use Rattle.command.specs.Progress.{progressAt}
 use Rattle.carriers.specs.Carriers.{carrierNo}
 use Rattle.carriers.specs.declared.Carrier.the-variants.{Running}
-use Rattle.boot.specs.Session.{progress, inStep, fresh}
+use Rattle.boot.specs.Session.{sessionOf, progress, inStep, fresh}
 use Rattle.boot.specs.declared.Session.{Session}
-
--- how many bytes a session is lent in
-abbrev pub sessionLength : ℕ
-sessionLength = 280
 
 -- where each number stands, and where the staged bytes begin
 abbrev pub carrierPlace : ℕ
@@ -40,6 +37,10 @@ speedPlace = 22
 abbrev pub stagedPlace : ℕ
 stagedPlace = 23
 
+-- how many bytes a session is lent in: 280
+abbrev pub sessionLength : ℕ
+sessionLength = stagedPlace + stagedBytes
+
 -- the bytes of a session
 unfoldable pub sessionBytes : Session → List ℕ
 sessionBytes s =
@@ -52,15 +53,10 @@ holdsSession l = eqb (length l) sessionLength
 
 -- the session whose bytes these are
 unfoldable pub heldIn : List ℕ → Session
-heldIn l = record {
-  carrier = getD l carrierPlace 0;
-  step = getD l stepPlace 0;
-  taken = number (part takenPlace longBytes l);
-  expected = number (part expectedPlace longBytes l);
-  address = number (part addressPlace shortBytes l);
-  speed = getD l speedPlace 0;
-  staged = part stagedPlace stagedBytes l;
-}
+heldIn l =
+    sessionOf (getD l carrierPlace 0) (getD l stepPlace 0)
+    (progressAt (number (part takenPlace longBytes l)) (number (part expectedPlace longBytes l)) (number (part addressPlace shortBytes l))
+    (part stagedPlace stagedBytes l)) (getD l speedPlace 0)
 
 -- no session: its carrier exceeds 3, so it is unsound
 abbrev pub noSession : Session

@@ -74,8 +74,8 @@ pub record Parts (P : Decision → Type 0) : Type 0 where
 -- and of what only Access Unprotect does, and only Read Memory, Firmware CRC and a special erase are answered, each where that command ends
 pub record Sole (P : Decision → Type 0) (unprotects reads sums erases : Type 0) : Type 0 where
   pub unlocked : unprotects → Holds P unlocking
-  pub read : reads → (r : Region) (at x : ℕ) → Holds P (show (Data r at x))
-  pub summed : sums → (at n : ℕ) → Holds P (show (Crc at n))
+  pub read : reads → (r : Region) (at x : ℕ) → Holds P (show (Data r at x) GoIdle)
+  pub summed : sums → (at n : ℕ) → Holds P (show (Crc at n) GoIdle)
   pub halved : erases → (w : Why) → Holds P (answer (AckNack w) GoIdle)
 
 -- a byte is the last that a step of this number expects

@@ -6,7 +6,7 @@ use lib.ListN.{length, getD, take}
 use lib.Dec.{eqb}
 use Rattle.words.specs.Bytes.{complement, xorAll, number, twoBytes}
 use Rattle.board.specs.Board.{address, identity}
-use Rattle.board.specs.Quantities.{countOf, lessOne, oneLess, addressBytes, selectorBytes, longCountBytes, numbersBytes}
+use Rattle.board.specs.Quantities.{countOf, lessOne, oneLess, addressIn, countSent, addressBytes, selectorBytes, longCountBytes, numbersBytes}
 use Rattle.command.specs.Says.{replyRoom}
 use Rattle.board.specs.Regions.{known, sectorStart}
 use Rattle.board.specs.declared.Address.{Address}
@@ -94,7 +94,7 @@ commanded view Unknown = nack UnknownCommand
 -- an address and the XOR of its four bytes
 unfoldable pub addressed : (Address → Decision) → List ℕ → Decision
 addressed go bytes =
-    if checks (take addressBytes bytes) (getD bytes addressBytes 0) gives go (address (number (take addressBytes bytes)))
+    if checks (take addressBytes bytes) (getD bytes addressBytes 0) gives go (addressIn bytes)
     else nack BadChecksum
 
 -- an address that passes a test is kept, and a step is entered
@@ -131,7 +131,7 @@ complete ProtectList e a bytes view =
     if checksCounted (countIn e) bytes gives protecting bytes (countIn e) else nack BadChecksum
 complete CrcCount e a bytes view =
     if checks (0xFF ∷ take longCountBytes bytes) (getD bytes longCountBytes 0)
-    gives summing (address a) (countOf (lessOne (number (take longCountBytes bytes))))
+    gives summing (address a) (countSent (take longCountBytes bytes))
     else nack BadChecksum
 
 -- one byte of a connected host: gathered, or the last of its step

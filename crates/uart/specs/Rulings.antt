@@ -40,7 +40,7 @@ rulings =
     ∷ (last ReadAddress (hex "08 00 00 00 08") 0 fresh is answer Ack (EnterAt (stepNo ReadLength) 2 0x08000000))
     ∷ (last ReadAddress (hex "08 00 00 00 09") 0 fresh is nack BadChecksum)
     ∷ (last ReadAddress (hex "09 00 00 00 09") 0 fresh is nack BadAddress)
-    ∷ (last ReadLength (hex "03 FC") 0x08000000 fresh is show (Data Flash 0 4))
+    ∷ (last ReadLength (hex "03 FC") 0x08000000 fresh is show (Data Flash 0 4) GoIdle)
     ∷ (last JumpAddress (hex "20 00 00 00 20") 0 fresh is answer Ack (Run 0x20000000))
     ∷ (last WriteLength (hex "01") 0x080003FF fresh is answer Silence (Enter (stepNo WriteData) 3))
     ∷ (last WriteData (hex "AA 0F A4") 0x080003FF fresh is alter Ack (Write Flash 1023 2) GoIdle)
@@ -54,7 +54,7 @@ rulings =
     ∷ (last EraseList (hex "00 03 00 1F 1D") 0 fresh is alter Ack (EraseSectors 2) GoIdle)
     ∷ (last ProtectList (hex "00 1F 1E") 0 fresh is alter Ack (ProtectOnly 2) Reset)
     ∷ (last CrcAddress (hex "08 00 7C 00 74") 0 fresh is answer Ack (EnterAt (stepNo CrcCount) 3 0x08007C00))
-    ∷ (last CrcCount (hex "00 00 FF") 0x08007C00 fresh is show (Crc 31744 1024))
+    ∷ (last CrcCount (hex "00 00 FF") 0x08007C00 fresh is show (Crc 31744 1024) GoIdle)
     ∷ (last CrcCount (hex "00 00 00") 0x08007C00 fresh is nack BadChecksum)
     ∷ (last CrcCount (hex "00 01 FE") 0x08007C00 fresh is nack BadRange)
     ∷ []

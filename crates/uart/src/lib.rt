@@ -40,7 +40,7 @@ pub const CHECKED_ADDRESS: usize = 5;
 pub const ONE_BYTE: usize = 1;
 
 // What two selector bytes take.
-pub const SELECTOR_BYTES: usize = 2;
+pub const SELECTOR_BYTES: usize = Sector::NUMBER_BYTES;
 
 // What X bytes and their checksum take, for the least X and for the largest.
 pub const LEAST_COUNTED: usize = 1 + 1;
@@ -123,7 +123,9 @@ impl Step {
             Step::WriteLength | Step::SpecialCheck | Step::ProtectLength => n == ONE_BYTE,
             Step::WriteData | Step::ProtectList => (LEAST_COUNTED <= n) & (n <= MOST_COUNTED),
             Step::EraseSelector => n == SELECTOR_BYTES,
-            Step::EraseList => (LEAST_NUMBERED <= n) & (n <= MOST_NUMBERED) & (n % 2 == 1),
+            Step::EraseList => (LEAST_NUMBERED <= n)
+                & (n <= MOST_NUMBERED)
+                & (n % Sector::NUMBER_BYTES == 1),
             Step::CrcCount => n == CHECKED_COUNT,
         }
     }

@@ -8,6 +8,7 @@ ghost use Rattle.board.specs.Quantities.{largestCount};
 ghost use Rattle.memories.specs.Effects.{stagedBytes};
 ghost use Rattle.uart.specs.Conversation.{complemented, checks, checksCounted, checksNumbered};
 use board::LessOne;
+use board::Sector;
 
 // Whether the first two bytes are a byte and its complement.
 pub fn complemented(bytes: &[u8]) -> bool
@@ -30,7 +31,7 @@ pub fn checks_numbered(bytes: &[u8], x: usize) -> bool
     requires { ⌜ (length (now bytes) ≡ stagedBytes) × (1 ≤ x) × (x ≤ sectors .count) ⌝ }
     ensures { λ r. ⌜ r ≡ checksNumbered x (now (bytes .entry)) ⌝ }
 {
-    let end = 2 * x;
+    let end = Sector::NUMBER_BYTES * x;
     bytes[end] == words::xor_from(LessOne::of(x).0 as u8, bytes, end)
 }
 

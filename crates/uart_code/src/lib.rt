@@ -16,6 +16,7 @@ ghost use Rattle.command.specs.declared.FixedReply.the-variants.{Silence};
 ghost use Rattle.uart.specs.Steps.{stepOf, expects, complementedByte, oneByte, checkedCount, expectedFor, expectedForNumbers};
 ghost use Rattle.uart.specs.Conversation.{awaits, selected, complete};
 use board::Address;
+use board::Sector;
 use board::View;
 use command::Decision;
 use command::FixedReply;
@@ -48,7 +49,10 @@ fn selected(selector: Selector) -> Decision
         Selector::Listed(sent) => {
             command::answer(
                 FixedReply::Silence,
-                Next::Enter(Step::EraseList.number(), 2 * sent.count() + 1),
+                Next::Enter(
+                    Step::EraseList.number(),
+                    Sector::NUMBER_BYTES * sent.count() + 1,
+                ),
             )
         }
         Selector::Special(number) => command::answer(
@@ -124,7 +128,7 @@ fn erase_ends(view: View, expected: usize, bytes: &[u8]) -> Decision
     requires { ⌜ (expectedForNumbers 1 ≤ expected) × (expected ≤ expectedForNumbers (sectors .count)) × (length (now bytes) ≡ stagedBytes) ⌝ }
     ensures { λ r. ⌜ r ≡ complete Step.EraseList expected 0 (now (bytes .entry)) view ⌝ }
 {
-    let x = (expected - 1) / 2;
+    let x = (expected - 1) / Sector::NUMBER_BYTES;
     command::accept_if(
         checksum::checks_numbered(bytes, x),
         list_rules_code::erase::erase(view, bytes, x),
