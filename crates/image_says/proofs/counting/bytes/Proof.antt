@@ -1,8 +1,6 @@
 -- Before each turn what is counted and what is still to count make up the whole.
 use borrow.Author.Needs.{needs}
 use native.Mathlib.Omega.{arith}
-use borrow.Author.Needs.{needs}
-use native.Mathlib.Omega.{arith}
 use mathlib.Core.Path.{_≡_, refl, sym, ap, _∙_}
 use Prim.Native.Nat.{_+_, _≤_, _-_}
 use lib.Dec.{eqb}

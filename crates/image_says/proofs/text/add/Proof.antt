@@ -1,7 +1,6 @@
 -- The characters are copied whole.
 use borrow.Author.Needs.{needs}
 use native.Mathlib.Omega.{arith}
-use native.Mathlib.Omega.{arith}
 use mathlib.Core.Path.{_∙_, ap, refl}
 use mathlib.Core.List.{List}
 use Prim.Native.Nat.{ℕ}

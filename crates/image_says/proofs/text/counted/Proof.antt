@@ -1,7 +1,6 @@
 -- The digits, a space, the name and an s stand one behind the other.
 use borrow.Author.Needs.{needs}
 use native.Mathlib.Omega.{arith}
-use native.Mathlib.Omega.{arith}
 use mathlib.Core.Path.{refl}
 use borrow.Author.Tests.{eq-eqb, ne-eqb}
 use Rattle.image_says.proofs.Adding.{then, nothing}

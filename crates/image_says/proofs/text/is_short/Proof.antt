@@ -1,7 +1,6 @@
 -- Before each turn, the line of the number that is left, among the lines that are left, is the one asked for.
 use borrow.Author.Needs.{needs}
 use native.Mathlib.Omega.{arith}
-use native.Mathlib.Omega.{arith}
 use mathlib.Core.Path.{_≡_, refl, sym, ap, _∙_}
 use mathlib.Core.List.{[]}
 use Prim.Native.Nat.{_≤_, _-_}

@@ -1,7 +1,6 @@
 -- The name alone, or a colon and the number behind it.
 use borrow.Author.Needs.{needs}
 use native.Mathlib.Omega.{arith}
-use native.Mathlib.Omega.{arith}
 use borrow.Author.Tests.{eq-eqb, ne-eqb}
 use Rattle.image_says.proofs.Adding.{then, nothing}
 use Rattle.image_says.proofs.text.name_line.Statement.{statement}

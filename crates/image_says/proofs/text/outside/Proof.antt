@@ -1,7 +1,6 @@
 -- What is said, and the advice behind it.
 use borrow.Author.Needs.{needs}
 use native.Mathlib.Omega.{arith}
-use native.Mathlib.Omega.{arith}
 use borrow.Author.Tests.{not-true, not-false}
 use Rattle.image_says.proofs.Adding.{then, nothing}
 use Rattle.image_says.proofs.text.outside.Statement.{statement}

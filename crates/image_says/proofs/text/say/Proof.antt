@@ -1,7 +1,6 @@
 -- By the cause; each arm adds what is said of it.
 use borrow.Author.Needs.{needs}
 use native.Mathlib.Omega.{arith}
-use native.Mathlib.Omega.{arith}
 use Rattle.image_says.proofs.text.say.Statement.{statement}
 use Rattle.image_says.proofs.text.say.Tie as tie
 
