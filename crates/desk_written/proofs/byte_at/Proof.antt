@@ -1,7 +1,6 @@
 -- The hex byte at the place has two digits behind its space.
 use borrow.Author.Needs.{needs}
 use native.Mathlib.Omega.{arith}
-use native.Mathlib.Omega.{arith}
 use Rattle.desk_lines.proofs.Lines.{field-good}
 use Rattle.desk_written.proofs.byte_at.Statement.{statement}
 use Rattle.desk_written.proofs.byte_at.Tie as tie

@@ -1,6 +1,5 @@
 -- Each turn prints one row more of the shorter image.
 use borrow.Author.Needs.{needs}
-use borrow.Author.Needs.{needs}
 use native.Mathlib.Omega.{arith}
 use Prim.Native.Nat.{_≤_, _-_}
 use Rattle.image_stored.proofs.print_rows.Statement.{statement}

@@ -1,6 +1,5 @@
 -- Each turn looks at one byte more of the shorter row.
 use borrow.Author.Needs.{needs}
-use borrow.Author.Needs.{needs}
 use Prim.Native.Nat.{_≤_, _-_}
 use Rattle.image_stored.proofs.same.Statement.{statement}
 use Rattle.image_stored.proofs.same.Tie as tie

@@ -1,7 +1,6 @@
 -- By the number; one of at most 15 bits is itself as a shift.
 use borrow.Author.Needs.{needs}
 use native.Mathlib.Omega.{arith}
-use native.Mathlib.Omega.{arith}
 use mathlib.Core.Path.{refl}
 use borrow.Author.Tests.{le-leb, lt-leb}
 use mir.Syntax.{w16}

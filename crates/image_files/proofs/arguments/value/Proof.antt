@@ -1,7 +1,6 @@
 -- Before each turn, the digits left behind the value so far write what all of them write.
 use native.Mathlib.Omega.{arith}
 use borrow.Author.Needs.{needs}
-use native.Mathlib.Omega.{arith}
 use mathlib.Core.Path.{_≡_, refl, sym, subst, _∙_}
 use Prim.Native.Nat.{_≤_, _<_, _-_}
 use lib.Dec.{T}

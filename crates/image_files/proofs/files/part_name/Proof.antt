@@ -1,7 +1,6 @@
 -- Each part is added behind the one before, and there is room for all.
 use borrow.Author.Needs.{needs}
 use native.Mathlib.Omega.{arith}
-use native.Mathlib.Omega.{arith}
 use Rattle.image_files.proofs.Prefixes.{first-bytes}
 use Rattle.image_files.proofs.files.part_name.Statement.{statement}
 use Rattle.image_files.proofs.files.part_name.Tie as tie
