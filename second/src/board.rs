@@ -54,10 +54,23 @@ pub enum Memory {
     Usd,
 }
 
+impl Memory {
+    /// Every memory.
+    pub const ALL: [Memory; 3] = [Memory::Flash, Memory::Sram, Memory::Usd];
+
+    /// The region that the memory answers for.
+    pub fn region(self) -> Region {
+        match self {
+            Memory::Flash => FLASH,
+            Memory::Sram => SRAM,
+            Memory::Usd => USD,
+        }
+    }
+}
+
 /// The memory in which all `count` bytes from an address on lie, and their offset in it.
 pub fn memory_of(address: u32, count: usize) -> Option<(Memory, usize)> {
-    let in_region = |memory, region: Region| Some((memory, region.offset_of(address, count)?));
-    in_region(Memory::Flash, FLASH).or_else(|| in_region(Memory::Sram, SRAM)).or_else(|| in_region(Memory::Usd, USD))
+    Memory::ALL.into_iter().find_map(|memory| Some((memory, memory.region().offset_of(address, count)?)))
 }
 
 /// The value of an erased flash byte.

@@ -8,6 +8,7 @@ use crate::effects::{self, Done};
 use crate::ends::Effect;
 use crate::frame::{frame_bytes, Frame, FRAME_DATA_BYTES};
 use crate::memories::Memories;
+use crate::near::{Edge, Miss};
 use crate::refused::{require, Refused};
 use crate::reply::{Reply, ACK, NACK};
 use crate::session::{CanStep, Next, Session, Step, HIGHEST_SPEED};
@@ -90,8 +91,8 @@ pub fn needed_dlc(command: u16) -> Option<usize> {
 
 /// Takes a command frame: its ID is the command.
 fn command(frame: &Frame, memories: &mut Memories, frames: &mut Frames) -> Result<Done, Refused> {
-    let dlc_fits = needed_dlc(frame.id).is_none_or(|dlc| dlc == frame.dlc);
-    require(dlc_fits, Refused::Dlc)?;
+    let needed = needed_dlc(frame.id).unwrap_or(frame.dlc);
+    require(frame.dlc == needed, Refused::Dlc(Miss::of(frame.dlc, needed, needed)))?;
     let locked = is_protected(frame.id) && effects::protection_is_on(memories.usd);
     require(!locked, Refused::Protected)?;
     match frame.id {
@@ -113,7 +114,7 @@ fn command(frame: &Frame, memories: &mut Memories, frames: &mut Frames) -> Resul
             frames.send_each(&[ACK, ACK]);
             Ok(effects::resetting(frame.id, memories))
         }
-        _ => Err(Refused::Unknown),
+        _ => Err(Refused::Unknown(Miss::by_high_byte(CAN_LIST[1..].contains(&(frame.id as u8))))),
     }
 }
 
@@ -129,15 +130,16 @@ fn tell(head: &[u8], body: &[u8], frames: &mut Frames) -> Done {
 /// Enters a list's gathering step for X.
 fn enter_list(step: CanStep, x: usize) -> Done {
     let step = Step::Can(step);
-    (Effect::Entered(step), Next::Enter(step, x))
+    (Effect::Entered(step, step.expects().edge(x)), Next::Enter(step, x))
 }
 
 /// Takes 0x03: the first byte 0 to 3 is the new speed, the second byte is free.
 fn speed(frame: &Frame, frames: &mut Frames) -> Result<Done, Refused> {
     let speed = frame.bytes[0];
-    require(speed <= HIGHEST_SPEED, Refused::Speed)?;
+    let (number, highest) = (usize::from(speed), usize::from(HIGHEST_SPEED));
+    require(speed <= HIGHEST_SPEED, Refused::Speed(Miss::of(number, 0, highest)))?;
     frames.send_each(&[ACK, ACK]);
-    Ok((Effect::ChangedSpeed, Next::IdleAtSpeed(speed)))
+    Ok((Effect::ChangedSpeed(Edge::of(number, 0, highest)), Next::IdleAtSpeed(speed)))
 }
 
 /// Takes 0x11: ACK, then frames of eight and a last with what remains.
@@ -162,9 +164,10 @@ fn jump(frame: &Frame, frames: &mut Frames) -> Result<Done, Refused> {
 fn write_memory(frame: &Frame, memories: &Memories, frames: &mut Frames) -> Result<Done, Refused> {
     let x = count_sent_as_one_less(frame.bytes[4]);
     effects::writable(memories, frame.address(), x)?;
+    let (memory, edge) = effects::in_a_region(frame.address())?;
     frames.send(&[ACK]);
     let step = Step::Can(CanStep::WriteData);
-    Ok((Effect::Entered(step), Next::EnterAt(step, x, frame.address())))
+    Ok((Effect::EnteredAt(step, memory, edge), Next::EnterAt(step, x, frame.address())))
 }
 
 /// Takes 0x44: a list is gathered, a special erase is ACK and then ACK or NACK.
@@ -180,7 +183,7 @@ fn erase(frame: &Frame, memories: &mut Memories, frames: &mut Frames) -> Result<
             frames.send(&[ACK]);
             Ok(done)
         }
-        EraseSelector::Other => Err(Refused::Selector),
+        EraseSelector::Other(miss) => Err(Refused::Selector(miss)),
     }
 }
 
@@ -195,11 +198,11 @@ fn firmware_crc(frame: &Frame, memories: &Memories, frames: &mut Frames) -> Resu
 
 /// Gathers a frame of the running command: extra bytes are dropped by a write, refused by a list.
 fn gather(step: CanStep, session: &mut Session, frame: &Frame, memories: &mut Memories, frames: &mut Frames) -> Result<Done, Refused> {
-    require(frame.id == frames.id, Refused::OtherId)?;
+    require(frame.id == frames.id, Refused::OtherId(Miss::by_high_byte(frame.id as u8 == frames.id as u8)))?;
     require(frame.dlc > 0, Refused::DlcZero)?;
-    let room = session.expected - session.taken;
+    let room = session.left();
     let fits = frame.dlc <= room || step == CanStep::WriteData;
-    require(fits, Refused::ExtraBytes)?;
+    require(fits, Refused::ExtraBytes(Miss::of(frame.dlc, 1, room)))?;
     for byte in frame.data().iter().take(room) {
         session.stage(*byte);
     }
@@ -216,7 +219,7 @@ fn gather(step: CanStep, session: &mut Session, frame: &Frame, memories: &mut Me
 fn end_gathering(step: CanStep, session: &Session, memories: &mut Memories) -> Result<Done, Refused> {
     let bytes = &session.staged[..session.expected];
     match step {
-        CanStep::Idle => Err(Refused::Unknown),
+        CanStep::Idle => Err(Refused::Unknown(Miss::Far)),
         CanStep::WriteData => effects::write(memories, session.address, bytes),
         CanStep::EraseList => effects::erase_list(memories, bytes),
         CanStep::ProtectList => effects::protect_only(memories, bytes),

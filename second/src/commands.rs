@@ -1,6 +1,7 @@
 //! The command numbers of both papers, and what the three asking commands send.
 
 use crate::board::{BID, PRODUCT_ID, PROJECT_ID, PROTOCOL_VERSION};
+use crate::near::Miss;
 
 /// Get Commands.
 pub const GET_COMMANDS: u16 = 0x00;
@@ -68,7 +69,7 @@ pub enum EraseSelector {
     /// 0xFFFB to 0xFFFF: a special erase.
     Special(u32),
     /// 32 to 0xFFFA: refused at once.
-    Other,
+    Other(Miss),
 }
 
 impl EraseSelector {
@@ -78,6 +79,9 @@ impl EraseSelector {
     /// The first special selector.
     pub const FIRST_SPECIAL: u16 = 0xFFFB;
 
+    /// The last special selector.
+    pub const LAST_SPECIAL: u16 = 0xFFFF;
+
     /// Reads a selector from its two bytes, high first.
     pub fn from_bytes(high: u8, low: u8) -> EraseSelector {
         let selector = u16::from_be_bytes([high, low]);
@@ -85,8 +89,10 @@ impl EraseSelector {
             EraseSelector::List(count_sent_as_one_less(selector))
         } else if selector >= EraseSelector::FIRST_SPECIAL {
             EraseSelector::Special(u32::from(selector))
+        } else if selector + 1 == EraseSelector::FIRST_SPECIAL {
+            EraseSelector::Other(Miss::Before)
         } else {
-            EraseSelector::Other
+            EraseSelector::Other(Miss::of(usize::from(selector), 0, usize::from(EraseSelector::LAST_COUNT)))
         }
     }
 }

@@ -1,7 +1,7 @@
 //! The one table of values at the edges of rules, from which random inputs are made.
 
 use crate::board::{Region, ACCESS_LOCKED, ACCESS_OPEN, FLASH, SECTORS, SECTOR_BITS_BYTES, SECTOR_BYTES, SRAM, USD};
-use crate::commands::{CAN_LIST, ERASE, FIRMWARE_CRC, PROTECT, READ_MEMORY, UART_LIST, WRITE_MEMORY};
+use crate::commands::{CAN_LIST, ERASE, FIRMWARE_CRC, PROTECT, READ_MEMORY, UART_LIST, UNPROTECT, WRITE_MEMORY};
 use crate::dice::Dice;
 
 /// Regions, those with rules of their own twice, and how far apart the borders in each are.
@@ -11,19 +11,19 @@ const REGIONS: [(Region, usize); 5] =
 /// How far an address is from the start of a region, from a border in it, and from its end.
 const FROM_START: [i32; 4] = [0, 0, 1, -1];
 const FROM_BORDER: [i32; 6] = [0, 0, 0, -1, -2, -8];
-const FROM_END: [i32; 5] = [0, -1, -2, -8, -256];
+const FROM_END: [i32; 8] = [0, 0, -1, -1, -2, -8, -256, -1024];
 
 /// Counts X of bytes or of sector indexes.
 const COUNTS: [usize; 16] = [1, 1, 2, 2, 3, 4, 5, 7, 8, 9, 16, 17, 32, 64, 255, 256];
 
 /// Counts of sectors.
-const SECTOR_COUNTS: [usize; 8] = [1, 2, 3, 4, 31, 32, 33, 65_536];
+const SECTOR_COUNTS: [usize; 9] = [1, 2, 3, 31, 32, 33, 257, 257, 65_536];
 
 /// Sector numbers that name none.
 const NO_SECTORS: [u16; 8] = [32, 32, 32, 33, 255, 256, 0x8000, 0xFFFF];
 
 /// Erase selectors that are no counts.
-const SELECTORS: [u16; 9] = [32, 33, 0x0100, 0xFFFA, 0xFFFB, 0xFFFC, 0xFFFD, 0xFFFE, 0xFFFF];
+const SELECTORS: [u16; 11] = [32, 33, 0x0100, 0xFFFA, 0xFFFB, 0xFFFC, 0xFFFD, 0xFFFE, 0xFFFE, 0xFFFF, 0xFFFF];
 
 /// Addresses of special erases, and one that only looks like it.
 const SPECIALS: [u32; 6] = [0xFFFB, 0xFFFC, 0xFFFD, 0xFFFE, 0xFFFF, 0x1_FFFF];
@@ -40,8 +40,8 @@ const SPEEDS: [u8; 6] = [0, 1, 2, 3, 4, 0xFF];
 /// Numbers no session should hold.
 const HUGE: [u64; 6] = [0, 1, 258, 1 << 32, 1 << 63, u64::MAX];
 
-/// Commands that have steps, and so more to reach; writes have most.
-const STEPPED: [u16; 7] = [READ_MEMORY, WRITE_MEMORY, WRITE_MEMORY, ERASE, ERASE, PROTECT, FIRMWARE_CRC];
+/// Commands that have steps, and so more to reach; writes have most. Released sectors can be erased.
+const STEPPED: [u16; 8] = [READ_MEMORY, WRITE_MEMORY, WRITE_MEMORY, ERASE, ERASE, PROTECT, UNPROTECT, FIRMWARE_CRC];
 
 /// An address near a border of a region or of a sector, now and then any.
 pub fn address(dice: &mut Dice) -> u32 {
@@ -83,15 +83,23 @@ pub fn sector_count(address: u32, dice: &mut Dice) -> usize {
     }
 }
 
-/// Sector numbers, often that of an address or the next one, one of them now and then of no sector.
-pub fn sectors(count: usize, address: u32, dice: &mut Dice) -> Vec<u16> {
+/// A sector: that of an address, one beside it, the first, the last or any.
+fn sector(address: u32, dice: &mut Dice) -> usize {
     let near = FLASH.offset_of(address, 1).map_or(0, |offset| offset / SECTOR_BYTES);
-    let next = (near + 1) % SECTORS;
-    let sector = |dice: &mut Dice| [near, next, dice.below(SECTORS), dice.below(SECTORS)][dice.below(4)] as u16;
-    let mut sectors: Vec<u16> = (0..count).map(|_| sector(dice)).collect();
+    let any = dice.below(SECTORS);
+    dice.one_of(&[near, near, (near + 1) % SECTORS, near.saturating_sub(1), 0, SECTORS - 1, SECTORS - 1, any])
+}
+
+/// Sector numbers, sometimes all the same, one of them now and then of no sector.
+pub fn sectors(count: usize, address: u32, dice: &mut Dice) -> Vec<u16> {
+    let near = sector(address, dice);
+    let mut sectors = vec![dice.one_of(&[0, SECTORS - 1, near, near]) as u16; count];
+    if !dice.once_in(3) {
+        sectors.fill_with(|| sector(address, dice) as u16);
+    }
     if dice.once_in(4) {
         let any = dice.below(count);
-        sectors[dice.one_of(&[count - 1, any])] = dice.one_of(&NO_SECTORS);
+        sectors[dice.one_of(&[0, count - 1, any])] = dice.one_of(&NO_SECTORS);
     }
     sectors
 }
@@ -135,9 +143,8 @@ pub fn huge(dice: &mut Dice) -> u64 {
 }
 
 /// USD bytes 8 to 11: no sector protected, one alone, or any of the table.
-pub fn all_sector_bits(dice: &mut Dice) -> [u8; SECTOR_BITS_BYTES] {
-    let sector = dice.below(SECTORS);
-    let one: u32 = !(1 << sector);
+pub fn all_sector_bits(address: u32, dice: &mut Dice) -> [u8; SECTOR_BITS_BYTES] {
+    let one: u32 = !(1 << sector(address, dice));
     let any = [0; SECTOR_BITS_BYTES].map(|_| sector_bits(dice));
     dice.one_of(&[[0xFF; SECTOR_BITS_BYTES], one.to_le_bytes(), any])
 }

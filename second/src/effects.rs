@@ -6,8 +6,9 @@ use crate::board::{
 };
 use crate::commands::{ACCESS_PROTECT, ACCESS_UNPROTECT, UNPROTECT};
 use crate::crc::crc32_mpeg2_of_words;
-use crate::ends::{Bytes, Effect};
+use crate::ends::Effect;
 use crate::memories::Memories;
+use crate::near::{Edge, Miss, Outside, Span, Which};
 use crate::refused::{require, Refused};
 use crate::session::Next;
 
@@ -33,53 +34,76 @@ pub fn sector_is_protected(usd: &[u8], sector: usize) -> bool {
     usd[SECTOR_BITS_FIRST + sector / 8] & (1 << (sector % 8)) == 0
 }
 
-/// Tells whether any sector is write-protected.
-pub fn any_sector_is_protected(usd: &[u8]) -> bool {
-    (0..SECTORS).any(|sector| sector_is_protected(usd, sector))
+/// Refuses if one of these sectors is write-protected.
+fn none_is_protected(usd: &[u8], sectors: impl Iterator<Item = usize>) -> Result<(), Refused> {
+    let protected = sectors.map(|sector| sector_is_protected(usd, sector));
+    Which::refused(protected).map_or(Ok(()), |which| Err(Refused::ProtectedSector(which)))
 }
 
-/// Refuses an address that is in no region.
-pub fn in_a_region(address: u32) -> Result<(), Refused> {
-    require(memory_of(address, 1).is_some(), Refused::NoRegion)
+/// The memory of an address, and where in it; an address that is in no region is refused.
+pub fn in_a_region(address: u32) -> Result<(Memory, Edge), Refused> {
+    let (memory, offset) = memory_of(address, 1).ok_or(Refused::NoRegion(Outside::of(address, 1)))?;
+    Ok((memory, Edge::of(offset, 0, memory.region().bytes - 1)))
+}
+
+/// What is told of X bytes of a memory, which now are these.
+fn span(memory: Memory, offset: usize, bytes: &[u8]) -> Span {
+    let x = bytes.len();
+    let tests =
+        [(x == 256, Span::Most), (x == 1, Span::One), (offset + x == memory.region().bytes, Span::AtLast), (offset == 0, Span::AtFirst)];
+    Span::first(&tests, used(memory, bytes))
+}
+
+/// What is told of so many sectors of flash.
+fn sector_span(count: usize, most: usize, named: impl Fn(usize) -> bool, used: Span) -> Span {
+    let tests = [(count == most, Span::Most), (count == 1, Span::One), (named(SECTORS - 1), Span::AtLast), (named(0), Span::AtFirst)];
+    Span::first(&tests, used)
 }
 
 /// Whether bytes of a memory are those of a fresh board; USD always has its access byte to show.
-fn used(memory: Memory, bytes: &[u8]) -> Bytes {
+fn used(memory: Memory, bytes: &[u8]) -> Span {
     let fresh = match memory {
         Memory::Flash => bytes.iter().all(|byte| *byte == ERASED),
         Memory::Sram => bytes.iter().all(|byte| *byte == 0),
         Memory::Usd => false,
     };
+    fresh_if(fresh)
+}
+
+/// Fresh or used.
+fn fresh_if(fresh: bool) -> Span {
     if fresh {
-        Bytes::Fresh
+        Span::Fresh
     } else {
-        Bytes::Used
+        Span::Used
     }
 }
 
 /// The X bytes from an address on, when they all lie in one region.
 pub fn read<'m>(memories: &'m Memories, address: u32, x: usize) -> Result<(Effect, &'m [u8]), Refused> {
-    let (memory, offset) = memory_of(address, x).ok_or(Refused::Range)?;
+    let (memory, offset) = memory_of(address, x).ok_or(Refused::Range(Outside::of(address, x)))?;
     let bytes: &[u8] = match memory {
         Memory::Flash => memories.flash,
         Memory::Sram => memories.sram,
         Memory::Usd => memories.usd,
     };
     let bytes = &bytes[offset..offset + x];
-    Ok((Effect::Read(memory, used(memory, bytes)), bytes))
+    Ok((Effect::Read(memory, span(memory, offset, bytes)), bytes))
 }
 
 /// Where X bytes may be written: valid range, no protected sector touched, USD only whole.
 pub fn writable(memories: &Memories, address: u32, x: usize) -> Result<(Memory, usize), Refused> {
-    let (memory, offset) = memory_of(address, x).ok_or(Refused::Range)?;
+    let (memory, offset) = memory_of(address, x).ok_or(Refused::Range(Outside::of(address, x)))?;
     match memory {
         Memory::Flash => {
-            let mut touched = offset / SECTOR_BYTES..(offset + x).div_ceil(SECTOR_BYTES);
-            let protected = touched.any(|sector| sector_is_protected(memories.usd, sector));
-            require(!protected, Refused::ProtectedSector)?;
+            let touched = offset / SECTOR_BYTES..(offset + x).div_ceil(SECTOR_BYTES);
+            none_is_protected(memories.usd, touched)?;
         }
         Memory::Sram => {}
-        Memory::Usd => require(offset == 0 && x == USD.bytes, Refused::UsdRule)?,
+        Memory::Usd => {
+            let miss = if offset > 0 { Miss::Behind } else { Miss::of(x, USD.bytes, USD.bytes) };
+            require(offset == 0 && x == USD.bytes, Refused::UsdRule(miss))?;
+        }
     }
     Ok((memory, offset))
 }
@@ -87,69 +111,93 @@ pub fn writable(memories: &Memories, address: u32, x: usize) -> Result<(Memory, 
 /// Writes the data where it may go, or refuses it whole.
 pub fn write(memories: &mut Memories, address: u32, data: &[u8]) -> Result<Done, Refused> {
     let (memory, offset) = writable(memories, address, data.len())?;
+    let border = at_border(memories, memory, offset, data.len());
     let (bytes, next) = match memory {
         Memory::Flash => (&mut *memories.flash, Next::Idle),
         Memory::Sram => (&mut *memories.sram, Next::Idle),
         Memory::Usd => (&mut *memories.usd, Next::Reset),
     };
     let bytes = &mut bytes[offset..offset + data.len()];
-    let effect = Effect::Wrote(memory, used(memory, bytes));
+    let effect = Effect::Wrote(memory, border.unwrap_or_else(|| span(memory, offset, bytes)));
     for (old, new) in bytes.iter_mut().zip(data) {
         *old = if memory == Memory::Flash { *old & new } else { *new };
     }
     Ok((effect, next))
 }
 
+/// What is told of X bytes to be written at the border of a sector of flash.
+fn at_border(memories: &Memories, memory: Memory, offset: usize, x: usize) -> Option<Span> {
+    let end = offset + x;
+    let protected = |offset: usize| offset < FLASH.bytes && sector_is_protected(memories.usd, offset / SECTOR_BYTES);
+    let tests = [
+        (offset / SECTOR_BYTES < (end - 1) / SECTOR_BYTES, Span::Across),
+        (offset.is_multiple_of(SECTOR_BYTES) && protected(offset.wrapping_sub(1)), Span::BehindProtected),
+        (end.is_multiple_of(SECTOR_BYTES) && protected(end), Span::BeforeProtected),
+    ];
+    let first = tests.into_iter().find(|(holds, _)| memory == Memory::Flash && *holds);
+    first.map(|(_, span)| span)
+}
+
 /// Erases the sectors named by two-byte numbers, high first, or refuses the whole list.
 pub fn erase_list(memories: &mut Memories, list: &[u8]) -> Result<Done, Refused> {
-    for sector in sector_numbers(list) {
-        require(sector < SECTORS, Refused::SectorNumber)?;
-        let protected = sector_is_protected(memories.usd, sector);
-        require(!protected, Refused::ProtectedSector)?;
-    }
-    let mut bytes = Bytes::Fresh;
+    all_are_sectors(sector_numbers(list))?;
+    none_is_protected(memories.usd, sector_numbers(list))?;
+    let mut bytes = Span::Fresh;
     for sector in sector_numbers(list) {
         let sector = &mut memories.flash[sector * SECTOR_BYTES..][..SECTOR_BYTES];
         bytes = bytes.max(used(Memory::Flash, sector));
         sector.fill(ERASED);
     }
-    Ok((Effect::ErasedList(bytes), Next::Idle))
+    let named = |sector| sector_numbers(list).any(|named| named == sector);
+    Ok((Effect::ErasedList(sector_span(list.len() / 2, SECTORS, named, bytes)), Next::Idle))
+}
+
+/// Refuses if one of these numbers is over 31.
+fn all_are_sectors(numbers: impl Iterator<Item = usize> + Clone) -> Result<(), Refused> {
+    let mut over = numbers.clone().filter(|number| *number >= SECTORS);
+    let miss = over.next().map_or(Miss::Far, |number| Miss::of(number, 0, SECTORS - 1));
+    let which = Which::refused(numbers.map(|number| number >= SECTORS));
+    which.map_or(Ok(()), |which| Err(Refused::SectorNumber(which, miss)))
 }
 
 /// The two-byte sector numbers of a list, high first.
-fn sector_numbers(list: &[u8]) -> impl Iterator<Item = usize> + '_ {
+fn sector_numbers(list: &[u8]) -> impl Iterator<Item = usize> + Clone + '_ {
     list.chunks_exact(2).map(|pair| usize::from(u16::from_be_bytes([pair[0], pair[1]])))
 }
 
 /// Erases all flash for the two selectors that mean it, unless a sector is write-protected.
 pub fn erase_special(memories: &mut Memories, selector: u32) -> Result<Done, Refused> {
     let all_flash = selector == ERASE_ALL || selector == ERASE_BANK_1;
-    require(all_flash, Refused::SpecialErase)?;
-    let protected = any_sector_is_protected(memories.usd);
-    require(!protected, Refused::ProtectedSector)?;
+    let miss = if selector + 1 == ERASE_BANK_1 { Miss::Before } else { Miss::by_high_byte(selector & ERASE_ALL >= ERASE_BANK_1) };
+    require(all_flash, Refused::SpecialErase(miss))?;
+    none_is_protected(memories.usd, 0..SECTORS)?;
     let bytes = used(Memory::Flash, memories.flash);
     memories.flash.fill(ERASED);
-    Ok((Effect::ErasedAll(bytes), Next::Idle))
+    Ok((Effect::ErasedAll(Edge::of(selector as usize, ERASE_BANK_1 as usize, ERASE_ALL as usize), bytes), Next::Idle))
 }
 
 /// Makes the indexed sectors the only protected ones, then reset, or refuses all.
 pub fn protect_only(memories: &mut Memories, indexes: &[u8]) -> Result<Done, Refused> {
+    let sectors = indexes.iter().map(|index| usize::from(*index));
+    all_are_sectors(sectors.clone())?;
     let mut bits = NO_SECTOR_PROTECTED;
-    for index in indexes {
-        let sector = usize::from(*index);
-        require(sector < SECTORS, Refused::SectorNumber)?;
+    for sector in sectors.clone() {
         bits[sector / 8] &= !(1 << (sector % 8));
     }
+    let named = |sector| sectors.clone().any(|named| named == sector);
+    let earlier = (0..SECTORS).any(|sector| sector_is_protected(memories.usd, sector) && !named(sector));
+    let span = sector_span(indexes.len(), 256, named, fresh_if(!earlier));
     set_sector_bits(memories, bits);
-    Ok((Effect::ProtectedSectors, Next::Reset))
+    Ok((Effect::ProtectedSectors(span), Next::Reset))
 }
 
 /// Does what a command without further input does (0x73, 0x82, 0x92, 0xD4), then reset.
 pub fn resetting(command: u16, memories: &mut Memories) -> Done {
     let effect = match command {
         UNPROTECT => {
+            let bits = fresh_if(none_is_protected(memories.usd, 0..SECTORS).is_ok());
             set_sector_bits(memories, NO_SECTOR_PROTECTED);
-            Effect::ReleasedSectors
+            Effect::ReleasedSectors(bits)
         }
         ACCESS_PROTECT => {
             memories.usd[ACCESS_BYTE] = ACCESS_LOCKED;
@@ -182,25 +230,30 @@ fn access_unprotect(memories: &mut Memories) -> Effect {
 
 /// Refuses a jump unless its address is in flash or SRAM.
 pub fn jump(address: u32) -> Result<Done, Refused> {
-    let (memory, _) = memory_of(address, 1).ok_or(Refused::JumpAddress)?;
-    require(memory != Memory::Usd, Refused::JumpAddress)?;
-    Ok((Effect::Jumped(memory), Next::Running(address)))
+    let outside = Refused::JumpAddress(Outside::of(address, 1));
+    let (memory, edge) = in_a_region(address).map_err(|_| outside)?;
+    require(memory != Memory::Usd, outside)?;
+    Ok((Effect::Jumped(memory, edge), Next::Running(address)))
 }
 
-/// Refuses an address that is not a sector start in flash.
-pub fn sector_start(address: u32) -> Result<(), Refused> {
-    let offset = FLASH.offset_of(address, 1).ok_or(Refused::SectorStart)?;
-    require(offset.is_multiple_of(SECTOR_BYTES), Refused::SectorStart)
+/// The sector that starts at an address; an address that is not a sector start in flash is refused.
+pub fn sector_start(address: u32) -> Result<usize, Refused> {
+    let outside = Refused::SectorStart(Outside::of(address, 1));
+    let offset = FLASH.offset_of(address, 1).ok_or(outside)?;
+    require(offset.is_multiple_of(SECTOR_BYTES), outside)?;
+    Ok(offset / SECTOR_BYTES)
 }
 
 /// The CRC over the words of whole sectors from a sector start on, all inside flash.
 pub fn firmware_crc(memories: &Memories, address: u32, sectors: usize) -> Result<(Effect, u32), Refused> {
-    sector_start(address)?;
+    let first = sector_start(address)?;
     let bytes = sectors * SECTOR_BYTES;
-    let offset = FLASH.offset_of(address, bytes).ok_or(Refused::SectorRange)?;
+    let range = Refused::SectorRange(Miss::of(sectors, 1, SECTORS - first));
+    let offset = FLASH.offset_of(address, bytes).ok_or(range)?;
     let summed = &memories.flash[offset..offset + bytes];
     let (groups, rest) = summed.as_chunks();
     debug_assert!(rest.is_empty());
-    let effect = Effect::Summed(used(Memory::Flash, summed));
+    let summed_at = |sector| (first..first + sectors).contains(&sector);
+    let effect = Effect::Summed(sector_span(sectors, SECTORS, summed_at, used(Memory::Flash, summed)));
     Ok((effect, crc32_mpeg2_of_words(groups)))
 }

@@ -2,23 +2,16 @@
 
 use crate::board::Memory;
 use crate::calls::Cause;
+use crate::can::needed_dlc;
 use crate::commands::{
     is_protected, ACCESS_PROTECT, ACCESS_UNPROTECT, CAN_LIST, ERASE, FIRMWARE_CRC, GET_COMMANDS, GET_DEVICE_ID, GET_VERSION, JUMP, PROTECT,
     READ_MEMORY, RESET_DEVICE, SPEED, UART_LIST, UNPROTECT, WRITE_MEMORY,
 };
+use crate::near::{Edge, Miss, Outside, Span, Which};
 use crate::refused::Refused;
 use crate::session::{CanStep, Step, UartStep};
 
-/// Whether bytes are those of a fresh board.
-#[derive(Clone, Copy, Debug, PartialEq, Eq, PartialOrd, Ord)]
-pub enum Bytes {
-    /// They are.
-    Fresh,
-    /// They are not, so that what was done with them shows.
-    Used,
-}
-
-/// What an obeyed input did, and with which bytes.
+/// What an obeyed input did, where, and with which bytes.
 #[derive(Clone, Copy, Debug, PartialEq, Eq, PartialOrd, Ord)]
 pub enum Effect {
     /// It was taken, and the step expects more.
@@ -29,36 +22,38 @@ pub enum Effect {
     Connected,
     /// It was told what it asked for.
     Told,
-    /// It entered a step.
-    Entered(Step),
+    /// It entered a step with a count, sector or selector.
+    Entered(Step, Edge),
+    /// It entered a step with an address.
+    EnteredAt(Step, Memory, Edge),
     /// It read from a memory.
-    Read(Memory, Bytes),
+    Read(Memory, Span),
     /// It wrote over bytes of a memory.
-    Wrote(Memory, Bytes),
+    Wrote(Memory, Span),
     /// It wrote, and dropped the padding of its last frame.
     WrotePadded,
     /// It erased the named sectors.
-    ErasedList(Bytes),
-    /// It erased all flash.
-    ErasedAll(Bytes),
-    /// It made sectors the only protected ones.
-    ProtectedSectors,
+    ErasedList(Span),
+    /// It erased all flash, by one selector or the other.
+    ErasedAll(Edge, Span),
+    /// It made sectors the only protected ones; they are used if others were.
+    ProtectedSectors(Span),
     /// It released all sectors.
-    ReleasedSectors,
+    ReleasedSectors(Span),
     /// It turned access protection on.
     Locked,
     /// It turned access protection off and wiped.
-    Wiped(Bytes),
+    Wiped(Span),
     /// It would have, but protection was off.
     LeftOpen,
     /// It reset the board.
     Reset,
     /// It jumped into a memory.
-    Jumped(Memory),
+    Jumped(Memory, Edge),
     /// It was told a checksum.
-    Summed(Bytes),
+    Summed(Span),
     /// It changed the speed.
-    ChangedSpeed,
+    ChangedSpeed(Edge),
     /// It powered the board on.
     PoweredOn,
 }
@@ -168,7 +163,7 @@ impl Kind {
             _ => {}
         }
         ends.extend(self.causes(given, at).map(|cause| (None, End::Cause(cause))));
-        ends.extend(self.only_by_hand(given, at).iter().map(|rule| (None, End::Nack(*rule))));
+        ends.extend(self.only_by_hand(given, at).into_iter().map(|end| (None, end)));
         ends
     }
 
@@ -187,22 +182,32 @@ impl Kind {
         .filter_map(|(cause, can_be)| can_be.then_some(cause))
     }
 
-    /// The rules that refuse at a step only in sessions that no talk reaches.
-    fn only_by_hand(self, given: Given, at: Option<Step>) -> &'static [Refused] {
+    /// How a single call can end at a step only in sessions that no talk reaches.
+    fn only_by_hand(self, given: Given, at: Option<Step>) -> Vec<End> {
+        let from_outside = nacks(Refused::Range, &begin_outside());
         match (self, given, at) {
-            (Kind::Calls, Given::Byte, Some(Step::Uart(UartStep::CrcCount))) => &[Refused::SectorStart],
-            (Kind::Calls, Given::Frame, Some(Step::Can(CanStep::WriteData))) => {
-                &[Refused::Range, Refused::UsdRule, Refused::ProtectedSector]
-            }
-            _ => &[],
+            (Kind::Calls, Given::Byte, Some(Step::Uart(UartStep::ReadLength | UartStep::WriteData))) => from_outside,
+            (Kind::Calls, Given::Byte, Some(Step::Uart(UartStep::SpecialCheck))) => nacks(Refused::SpecialErase, &[Miss::HighByte]),
+            (Kind::Calls, Given::Byte, Some(Step::Uart(UartStep::CrcCount))) => no_sector_starts(),
+            (Kind::Calls, Given::Frame, Some(Step::Can(CanStep::WriteData))) => [from_outside, unwritable()].concat(),
+            _ => vec![],
         }
     }
 }
 
 /// The ends of rules that refuse and of effects.
 fn row(refused: &[Refused], did: &[Effect]) -> Vec<End> {
-    let refused = refused.iter().map(|rule| End::Nack(*rule));
-    refused.chain(did.iter().map(|effect| End::Did(*effect))).collect()
+    [nacks(|rule| rule, refused), dids(|effect| effect, did)].concat()
+}
+
+/// The ends of a rule, however near its edge.
+fn nacks<T: Copy>(rule: impl Fn(T) -> Refused, near: &[T]) -> Vec<End> {
+    near.iter().map(|near| End::Nack(rule(*near))).collect()
+}
+
+/// The ends of an effect, however near an edge.
+fn dids<T: Copy>(effect: impl Fn(T) -> Effect, near: &[T]) -> Vec<End> {
+    near.iter().map(|near| End::Did(effect(*near))).collect()
 }
 
 /// The ends of each command of a list, whose first byte is the version, and of all other commands.
@@ -212,57 +217,144 @@ fn of_commands(ends: fn(u16) -> Vec<End>, list: &[u8]) -> Vec<(Option<u16>, End)
     commands.chain([ANOTHER]).flat_map(each).collect()
 }
 
-/// Some effects, and one with fresh and used bytes of each memory; USD is never fresh.
-fn over_bytes(some: &[Effect], effect: fn(Memory, Bytes) -> Effect) -> Vec<Effect> {
-    use Memory::{Flash, Sram, Usd};
-    let fresh = [Flash, Sram].map(|memory| effect(memory, Bytes::Fresh));
-    let used = [Flash, Sram, Usd].map(|memory| effect(memory, Bytes::Used));
-    some.iter().copied().chain(fresh).chain(used).collect()
+/// Where bytes can begin outside all memories.
+fn begin_outside() -> Vec<Outside> {
+    let near = |memory| [Outside::Before(memory), Outside::Behind(memory)];
+    Memory::ALL.into_iter().flat_map(near).chain([Outside::Away]).collect()
+}
+
+/// Where bytes can end outside the memory that they begin in.
+fn end_outside() -> Vec<Outside> {
+    Memory::ALL.into_iter().flat_map(|memory| [Outside::EndsBehind(memory), Outside::EndsFar(memory)]).collect()
+}
+
+/// Addresses at which no sector starts.
+fn no_sector_starts() -> Vec<End> {
+    [nacks(Refused::SectorStart, &begin_outside()), nacks(Refused::SectorStart, &Memory::ALL.map(Outside::In))].concat()
+}
+
+/// Why a write is refused by its place and count.
+fn unwritable() -> Vec<End> {
+    let usd = nacks(Refused::UsdRule, &[Miss::Before, Miss::Behind, Miss::Far]);
+    [nacks(Refused::Range, &end_outside()), usd, nacks(Refused::ProtectedSector, &Which::ALL)].concat()
+}
+
+/// Why a list is refused by a number that misses the sectors.
+fn no_sectors(misses: &[Miss]) -> Vec<End> {
+    misses.iter().flat_map(|miss| nacks(|which| Refused::SectorNumber(which, *miss), &Which::ALL)).collect()
+}
+
+/// What can be read; USD is never fresh and has no 256 bytes.
+fn reads() -> Vec<End> {
+    use Span::{AtFirst, AtLast, One, Used};
+    let of = |memory, spans: &[Span]| dids(|span| Effect::Read(memory, span), spans);
+    [of(Memory::Flash, &Span::PLAIN), of(Memory::Sram, &Span::PLAIN), of(Memory::Usd, &[One, AtLast, AtFirst, Used])].concat()
+}
+
+/// What can be written; USD only whole.
+fn writes() -> Vec<End> {
+    let of = |memory, spans: &[Span]| dids(|span| Effect::Wrote(memory, span), spans);
+    let flash = [of(Memory::Flash, &Span::PLAIN), of(Memory::Flash, &Span::AT_BORDERS)].concat();
+    [flash, of(Memory::Sram, &Span::PLAIN), of(Memory::Usd, &[Span::AtLast])].concat()
+}
+
+/// How a jump can end.
+fn jumps() -> Vec<End> {
+    let into = |memory| dids(|edge| Effect::Jumped(memory, edge), &Edge::ALL);
+    let refused = [begin_outside(), vec![Outside::In(Memory::Usd)]].concat();
+    [nacks(Refused::JumpAddress, &refused), into(Memory::Flash), into(Memory::Sram)].concat()
+}
+
+/// How a special erase can end in talks.
+fn specials() -> Vec<End> {
+    let by = |edge| dids(|span| Effect::ErasedAll(edge, span), &[Span::Fresh, Span::Used]);
+    let refused = nacks(Refused::SpecialErase, &[Miss::Before, Miss::Far]);
+    [refused, nacks(Refused::ProtectedSector, &Which::ALL[1..]), by(Edge::Least), by(Edge::Most)].concat()
+}
+
+/// How a list of sectors to erase can end.
+fn erases() -> Vec<End> {
+    let numbers = no_sectors(&[Miss::Behind, Miss::HighByte, Miss::Far]);
+    [numbers, nacks(Refused::ProtectedSector, &Which::ALL), dids(Effect::ErasedList, &Span::PLAIN)].concat()
+}
+
+/// How a list of sectors to protect can end.
+fn protects() -> Vec<End> {
+    [no_sectors(&[Miss::Behind, Miss::Far]), dids(Effect::ProtectedSectors, &Span::PLAIN)].concat()
+}
+
+/// How a count of sectors can end.
+fn sums() -> Vec<End> {
+    let refused = nacks(Refused::SectorRange, &[Miss::Behind, Miss::HighByte, Miss::Far]);
+    [refused, dids(Effect::Summed, &Span::PLAIN)].concat()
+}
+
+/// How a selector can be refused.
+fn selectors() -> Vec<End> {
+    nacks(Refused::Selector, &[Miss::Before, Miss::Behind, Miss::HighByte, Miss::Far])
+}
+
+/// How a step can be entered with a count, sector or selector.
+fn entered(step: Step) -> Vec<End> {
+    dids(|edge| Effect::Entered(step, edge), &Edge::ALL)
+}
+
+/// How a step can be entered with an address in a memory.
+fn entered_at(step: Step, memory: Memory) -> Vec<End> {
+    dids(|edge| Effect::EnteredAt(step, memory, edge), &Edge::ALL)
+}
+
+/// How an address in any region can end.
+fn region_address(then: UartStep) -> Vec<End> {
+    let inside = Memory::ALL.into_iter().flat_map(|memory| entered_at(Step::Uart(then), memory));
+    nacks(Refused::NoRegion, &begin_outside()).into_iter().chain(inside).collect()
 }
 
 /// How a byte can end at a UART step.
 fn uart_step(step: UartStep) -> Vec<End> {
-    use Bytes::{Fresh, Used};
-    use Effect::{Entered, ErasedAll, ErasedList, Jumped, ProtectedSectors, Read, Summed, Waits, Wrote};
-    use Memory::{Flash, Sram};
-    use Refused::{
-        Checksum, Complement, NoRegion, ProtectedSector, Range, SectorNumber, SectorRange, SectorStart, Selector, SpecialErase, UsdRule,
+    let entered = |step| entered(Step::Uart(step));
+    let ends = match step {
+        UartStep::Idle => vec![],
+        UartStep::ReadAddress => region_address(UartStep::ReadLength),
+        UartStep::JumpAddress => jumps(),
+        UartStep::WriteAddress => region_address(UartStep::WriteLength),
+        UartStep::CrcAddress => [no_sector_starts(), entered(UartStep::CrcCount)].concat(),
+        UartStep::ReadLength => [nacks(Refused::Range, &end_outside()), reads()].concat(),
+        UartStep::WriteLength => entered(UartStep::WriteData),
+        UartStep::WriteData => [unwritable(), writes()].concat(),
+        UartStep::EraseSelector => [selectors(), entered(UartStep::EraseList), entered(UartStep::SpecialCheck)].concat(),
+        UartStep::SpecialCheck => specials(),
+        UartStep::EraseList => erases(),
+        UartStep::ProtectLength => entered(UartStep::ProtectList),
+        UartStep::ProtectList => protects(),
+        UartStep::CrcCount => sums(),
     };
-    let entered = |step| Entered(Step::Uart(step));
-    match step {
-        UartStep::Idle => row(&[], &[Waits]),
-        UartStep::ReadAddress => row(&[Checksum, NoRegion], &[Waits, entered(UartStep::ReadLength)]),
-        UartStep::JumpAddress => row(&[Checksum, Refused::JumpAddress], &[Waits, Jumped(Flash), Jumped(Sram)]),
-        UartStep::WriteAddress => row(&[Checksum, NoRegion], &[Waits, entered(UartStep::WriteLength)]),
-        UartStep::CrcAddress => row(&[Checksum, SectorStart], &[Waits, entered(UartStep::CrcCount)]),
-        UartStep::ReadLength => row(&[Complement, Range], &over_bytes(&[Waits], Read)),
-        UartStep::WriteLength => row(&[], &[entered(UartStep::WriteData)]),
-        UartStep::WriteData => row(&[Checksum, Range, UsdRule, ProtectedSector], &over_bytes(&[Waits], Wrote)),
-        UartStep::EraseSelector => row(&[Selector], &[Waits, entered(UartStep::EraseList), entered(UartStep::SpecialCheck)]),
-        UartStep::SpecialCheck => row(&[Checksum, SpecialErase, ProtectedSector], &[ErasedAll(Fresh), ErasedAll(Used)]),
-        UartStep::EraseList => row(&[Checksum, SectorNumber, ProtectedSector], &[Waits, ErasedList(Fresh), ErasedList(Used)]),
-        UartStep::ProtectLength => row(&[], &[entered(UartStep::ProtectList)]),
-        UartStep::ProtectList => row(&[Checksum, SectorNumber], &[Waits, ProtectedSectors]),
-        UartStep::CrcCount => row(&[Checksum, SectorRange], &[Waits, Summed(Fresh), Summed(Used)]),
-    }
+    let (waits, check) = match step {
+        UartStep::Idle | UartStep::EraseSelector => (&[Effect::Waits][..], &[][..]),
+        UartStep::WriteLength | UartStep::ProtectLength => (&[][..], &[][..]),
+        UartStep::SpecialCheck => (&[][..], &[Refused::Checksum][..]),
+        UartStep::ReadLength => (&[Effect::Waits][..], &[Refused::Complement][..]),
+        _ => (&[Effect::Waits][..], &[Refused::Checksum][..]),
+    };
+    [row(check, waits), ends].concat()
 }
 
 /// How a command and its complement can end on UART.
 fn uart_command(command: u16) -> Vec<End> {
-    let entered = |step| Effect::Entered(Step::Uart(step));
     let refused = match command {
-        ANOTHER => vec![Refused::Complement, Refused::Unknown],
+        ANOTHER => vec![Refused::Complement, Refused::Unknown(Miss::Far)],
         _ if is_protected(command) => vec![Refused::Complement, Refused::Protected],
         _ => vec![Refused::Complement],
     };
+    let entered = |step: UartStep| vec![Effect::Entered(Step::Uart(step), Edge::Least)];
     let did = match command {
         GET_COMMANDS | GET_VERSION | GET_DEVICE_ID => vec![Effect::Told],
-        READ_MEMORY => vec![entered(UartStep::ReadAddress)],
-        JUMP => vec![entered(UartStep::JumpAddress)],
-        WRITE_MEMORY => vec![entered(UartStep::WriteAddress)],
-        ERASE => vec![entered(UartStep::EraseSelector)],
-        PROTECT => vec![entered(UartStep::ProtectLength)],
-        FIRMWARE_CRC => vec![entered(UartStep::CrcAddress)],
+        READ_MEMORY => entered(UartStep::ReadAddress),
+        JUMP => entered(UartStep::JumpAddress),
+        WRITE_MEMORY => entered(UartStep::WriteAddress),
+        ERASE => entered(UartStep::EraseSelector),
+        PROTECT => entered(UartStep::ProtectLength),
+        FIRMWARE_CRC => entered(UartStep::CrcAddress),
         _ => resetting(command),
     };
     row(&refused, &did)
@@ -271,9 +363,9 @@ fn uart_command(command: u16) -> Vec<End> {
 /// What a command without further input does on both carriers.
 fn resetting(command: u16) -> Vec<Effect> {
     match command {
-        UNPROTECT => vec![Effect::ReleasedSectors],
+        UNPROTECT => vec![Effect::ReleasedSectors(Span::Fresh), Effect::ReleasedSectors(Span::Used)],
         ACCESS_PROTECT => vec![Effect::Locked],
-        ACCESS_UNPROTECT => vec![Effect::Wiped(Bytes::Fresh), Effect::Wiped(Bytes::Used), Effect::LeftOpen],
+        ACCESS_UNPROTECT => vec![Effect::Wiped(Span::Fresh), Effect::Wiped(Span::Used), Effect::LeftOpen],
         RESET_DEVICE => vec![Effect::Reset],
         _ => vec![],
     }
@@ -281,38 +373,36 @@ fn resetting(command: u16) -> Vec<Effect> {
 
 /// How a frame can end at a CAN step.
 fn can_step(step: CanStep) -> Vec<End> {
-    use Effect::{ErasedList, ProtectedSectors, Waits, Wrote, WrotePadded};
-    use Refused::{DlcZero, ExtraBytes, OtherId, ProtectedSector, SectorNumber};
+    let gathered = [row(&[Refused::DlcZero], &[Effect::Waits]), nacks(Refused::OtherId, &[Miss::HighByte, Miss::Far])].concat();
+    let extra = nacks(Refused::ExtraBytes, &[Miss::Behind, Miss::Far]);
     match step {
         CanStep::Idle => vec![],
-        CanStep::WriteData => row(&[OtherId, DlcZero], &over_bytes(&[Waits, WrotePadded], Wrote)),
-        CanStep::EraseList => {
-            row(&[OtherId, DlcZero, ExtraBytes, SectorNumber, ProtectedSector], &[Waits, ErasedList(Bytes::Fresh), ErasedList(Bytes::Used)])
-        }
-        CanStep::ProtectList => row(&[OtherId, DlcZero, ExtraBytes, SectorNumber], &[Waits, ProtectedSectors]),
+        CanStep::WriteData => [gathered, row(&[], &[Effect::WrotePadded]), writes()].concat(),
+        CanStep::EraseList => [gathered, extra, erases()].concat(),
+        CanStep::ProtectList => [gathered, extra, protects()].concat(),
     }
 }
 
 /// How a command frame can end on CAN.
 fn can_command(command: u16) -> Vec<End> {
-    use Effect::{ChangedSpeed, Entered, ErasedAll, Jumped, Read, Summed, Told};
-    use Memory::{Flash, Sram};
-    use Refused::{Dlc, Protected, ProtectedSector, Range, SectorRange, SectorStart, Selector, SpecialErase, Speed, Unknown, UsdRule};
-    let entered = |step| Entered(Step::Can(step));
-    match command {
-        ANOTHER => row(&[Unknown], &[]),
-        GET_COMMANDS | GET_VERSION | GET_DEVICE_ID => row(&[], &[Told]),
-        SPEED => row(&[Dlc, Speed], &[ChangedSpeed]),
-        READ_MEMORY => row(&[Dlc, Protected, Range], &over_bytes(&[], Read)),
-        JUMP => row(&[Dlc, Protected, Refused::JumpAddress], &[Jumped(Flash), Jumped(Sram)]),
-        WRITE_MEMORY => row(&[Dlc, Protected, Range, UsdRule, ProtectedSector], &[entered(CanStep::WriteData)]),
-        ERASE => row(
-            &[Dlc, Protected, Selector, SpecialErase, ProtectedSector],
-            &[entered(CanStep::EraseList), ErasedAll(Bytes::Fresh), ErasedAll(Bytes::Used)],
-        ),
-        PROTECT => row(&[Dlc, Protected], &[entered(CanStep::ProtectList)]),
-        FIRMWARE_CRC => row(&[Dlc, SectorStart, SectorRange], &[Summed(Bytes::Fresh), Summed(Bytes::Used)]),
-        _ if is_protected(command) => row(&[Protected], &resetting(command)),
+    let ranges = nacks(Refused::Range, &begin_outside());
+    let write_data = Step::Can(CanStep::WriteData);
+    let ends = match command {
+        ANOTHER => nacks(Refused::Unknown, &[Miss::HighByte, Miss::Far]),
+        GET_COMMANDS | GET_VERSION | GET_DEVICE_ID => row(&[], &[Effect::Told]),
+        SPEED => [nacks(Refused::Speed, &[Miss::Behind, Miss::Far]), dids(Effect::ChangedSpeed, &Edge::ALL)].concat(),
+        READ_MEMORY => [ranges, nacks(Refused::Range, &end_outside()), reads()].concat(),
+        JUMP => jumps(),
+        WRITE_MEMORY => {
+            let usd = row(&[], &[Effect::EnteredAt(write_data, Memory::Usd, Edge::Least)]);
+            [ranges, unwritable(), entered_at(write_data, Memory::Flash), entered_at(write_data, Memory::Sram), usd].concat()
+        }
+        ERASE => [selectors(), specials(), entered(Step::Can(CanStep::EraseList))].concat(),
+        PROTECT => entered(Step::Can(CanStep::ProtectList)),
+        FIRMWARE_CRC => [no_sector_starts(), sums()].concat(),
         _ => row(&[], &resetting(command)),
-    }
+    };
+    let locked: &[Refused] = if is_protected(command) { &[Refused::Protected] } else { &[] };
+    let dlc: &[Miss] = if needed_dlc(command).is_some() { &[Miss::Before, Miss::Behind, Miss::Far] } else { &[] };
+    [row(locked, &[]), nacks(Refused::Dlc, dlc), ends].concat()
 }

@@ -5,6 +5,7 @@ use crate::can::{needed_dlc, running_id, CONNECT_ID};
 use crate::commands::{ACCESS_UNPROTECT, ERASE, FIRMWARE_CRC, JUMP, PROTECT, READ_MEMORY, SPEED, WRITE_MEMORY};
 use crate::dice::Dice;
 use crate::edges;
+use crate::ends::ANOTHER;
 use crate::frame::FRAME_DATA_BYTES;
 use crate::session::{CanStep, Session, UartStep};
 use crate::uart::{xor, CONNECT_BYTE};
@@ -16,6 +17,8 @@ pub struct Known {
     pub locked: bool,
     /// An address that was used last.
     pub recent: u32,
+    /// A command that is wanted.
+    pub wanted: Option<u16>,
 }
 
 impl Known {
@@ -30,10 +33,11 @@ impl Known {
 
     /// A command; a locked board is unlocked before long.
     fn command(self, on_can: bool, dice: &mut Dice) -> u16 {
-        if self.locked && dice.once_in(5) {
-            ACCESS_UNPROTECT
-        } else {
-            edges::command(on_can, dice)
+        let any = edges::command(on_can, dice);
+        match self.wanted {
+            _ if self.locked && dice.once_in(5) => ACCESS_UNPROTECT,
+            Some(wanted) if wanted != ANOTHER => wanted,
+            _ => any,
         }
     }
 }
@@ -129,7 +133,7 @@ fn data(address: u32, x: usize, dice: &mut Dice) -> Vec<u8> {
     let mut data = dice.bytes(x);
     if address == USD.first && x == USD.bytes {
         data[ACCESS_BYTE] = edges::access(dice);
-        let bits = edges::all_sector_bits(dice);
+        let bits = edges::all_sector_bits(address, dice);
         data[SECTOR_BITS_FIRST..][..SECTOR_BITS_BYTES].copy_from_slice(&bits);
     }
     data

@@ -13,6 +13,7 @@ pub mod files;
 pub mod frame;
 pub mod line;
 pub mod memories;
+pub mod near;
 pub mod reached;
 pub mod refused;
 pub mod script;

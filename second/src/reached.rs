@@ -1,6 +1,7 @@
 //! What inputs reached, counted from what the board did, against the table of what can be reached.
 
 use crate::calls::{Cause, Taken};
+use crate::can::running_id;
 use crate::commands::{CAN_LIST, UART_LIST};
 use crate::ends::{End, Given, Kind, Met, ANOTHER};
 use crate::session::{CanStep, Session, Step, UartStep};
@@ -25,6 +26,14 @@ impl Met {
             _ => None,
         };
         Met { given, at, command, end }
+    }
+
+    /// The command that leads to this, if that is known.
+    pub fn to_command(self) -> Option<u16> {
+        match self.at {
+            Some(Step::Can(step)) => self.command.or(running_id(step)),
+            _ => self.command,
+        }
     }
 }
 
@@ -82,9 +91,10 @@ impl Reached {
         times.min().map_or(ENOUGH, |times| ENOUGH.min(*times))
     }
 
-    /// Tells whether each pair was met often enough.
-    pub fn has_enough(&self) -> bool {
-        self.table.values().all(|times| *times >= ENOUGH)
+    /// The pairs that were not met often enough.
+    pub fn wanted(&self) -> Vec<Met> {
+        let rare = self.table.iter().filter(|(_, times)| **times < ENOUGH);
+        rare.map(|(met, _)| *met).collect()
     }
 
     /// The pairs that can be reached and were not.

@@ -1,5 +1,7 @@
 //! The rules that refuse a command; the answer is NACK whichever rule it was.
 
+use crate::near::{Miss, Outside, Which};
+
 /// The rule that refused a command.
 #[derive(Clone, Copy, Debug, PartialEq, Eq, PartialOrd, Ord)]
 pub enum Refused {
@@ -8,39 +10,39 @@ pub enum Refused {
     /// A checksum is wrong.
     Checksum,
     /// There is no such command.
-    Unknown,
+    Unknown(Miss),
     /// The command is protected and protection is on.
     Protected,
     /// The address is in no region.
-    NoRegion,
+    NoRegion(Outside),
     /// The X bytes do not all lie in one region.
-    Range,
-    /// USD is not written from its first address with X = 64.
-    UsdRule,
+    Range(Outside),
+    /// USD is written from its first address with X not 64, or from another (`Behind`).
+    UsdRule(Miss),
     /// A write-protected sector is touched or named.
-    ProtectedSector,
+    ProtectedSector(Which),
     /// A sector number or index is over 31.
-    SectorNumber,
+    SectorNumber(Which, Miss),
     /// The erase selector is from 32 to 0xFFFA.
-    Selector,
-    /// The special erase selector is from 0xFFFB to 0xFFFD.
-    SpecialErase,
+    Selector(Miss),
+    /// The special erase selector is not one that erases.
+    SpecialErase(Miss),
     /// The jump address is not in flash or SRAM.
-    JumpAddress,
+    JumpAddress(Outside),
     /// The address is not a sector start in flash.
-    SectorStart,
+    SectorStart(Outside),
     /// The sectors are not all inside flash.
-    SectorRange,
+    SectorRange(Miss),
     /// The DLC is not the one that the command needs.
-    Dlc,
+    Dlc(Miss),
     /// The speed is over 3.
-    Speed,
+    Speed(Miss),
     /// A frame of another ID came while gathering.
-    OtherId,
+    OtherId(Miss),
     /// DLC 0 came while gathering.
     DlcZero,
     /// Extra bytes are in an index list.
-    ExtraBytes,
+    ExtraBytes(Miss),
 }
 
 /// Refuses by a rule unless it holds.

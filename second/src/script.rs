@@ -12,11 +12,8 @@ use crate::memories::Store;
 use crate::reached::Reached;
 use crate::session::{Session, Step};
 
-// The generator of files still names it here.
-pub use crate::dice;
-
 /// How many lines are tried, while there is something to reach, for the one that reaches the rarest.
-const TRIES: usize = 40;
+const TRIES: usize = 100;
 
 /// Characters that lines have, and some that they have not; LF ends a line and is not among them.
 const CHARACTERS: &[u8] = b"UCP 09AF/:@G`gau\t\r\0\x0B\x0C\x1F\x7F\x80\xD5\xFF";
@@ -82,6 +79,7 @@ impl Board {
 struct Host {
     kind: Kind,
     dice: Dice,
+    wanted: Option<u16>,
 }
 
 impl Host {
@@ -93,7 +91,8 @@ impl Host {
             let line = self.line(&board);
             met.extend(board.hear(&line));
             lines.push(line);
-            if board.session.is_between_commands() || self.dice.once_in(5) {
+            let between = board.session.is_between_commands() && self.dice.coin();
+            if between || self.dice.once_in(5 + board.session.left()) {
                 return Talk { lines, met, board };
             }
         }
@@ -102,7 +101,7 @@ impl Host {
     /// A line for where a board is.
     fn line(&mut self, board: &Board) -> Vec<u8> {
         let step = board.session.sound_step();
-        match (self.dice.below(48), step) {
+        match (self.dice.below(48 + board.session.left()), step) {
             (0, _) => b"P".to_vec(),
             (1..5, _) => self.no_line(),
             (5..8, Some(Step::Uart(_))) if self.kind == Kind::Mixed => self.stray(true),
@@ -110,7 +109,7 @@ impl Host {
             (_, Some(Step::Uart(_) | Step::Can(_))) => self.fitting(board, step),
             (8..30, Some(Step::Running)) => b"P".to_vec(),
             _ => {
-                let on_can = self.kind == Kind::Mixed && self.dice.below(5) < 2;
+                let on_can = self.kind == Kind::Mixed && self.dice.coin();
                 self.stray(on_can)
             }
         }
@@ -119,9 +118,9 @@ impl Host {
     /// A line that continues what a board is at, now and then spoilt.
     fn fitting(&mut self, board: &Board, step: Option<Step>) -> Vec<u8> {
         let dice = &mut self.dice;
-        let spoilt = dice.once_in(11);
         let session = &board.session;
-        let known = Known { locked: protection_is_on(&board.store.usd), recent: board.recent };
+        let spoilt = dice.once_in(11 + session.left() / 2);
+        let known = Known { locked: protection_is_on(&board.store.usd), recent: board.recent, wanted: self.wanted };
         match step {
             Some(Step::Can(step)) => {
                 let (mut id, mut data) = inputs::frame(step, session, known, dice);
@@ -207,14 +206,24 @@ impl Walk {
     /// A walk that begins with the fresh board.
     pub fn seeded(kind: Kind, seed: u64) -> Walk {
         let dice = Dice::seeded(seed);
-        Walk { board: Board::fresh(), host: Host { kind, dice }, reached: Reached::nothing(kind), lines: Vec::new(), open: Vec::new() }
+        Walk {
+            board: Board::fresh(),
+            host: Host { kind, dice, wanted: None },
+            reached: Reached::nothing(kind),
+            lines: Vec::new(),
+            open: Vec::new(),
+        }
     }
 
     /// Goes on by the talk, of some that are tried, that meets what was met most rarely.
     pub fn go_on(&mut self) {
-        let natural = self.reached.has_enough() || self.host.dice.once_in(4);
+        let rare = self.reached.wanted();
+        let natural = rare.is_empty() || self.host.dice.once_in(6);
         let tries = if natural { 1 } else { TRIES };
-        let tried = (0..tries).map(|_| self.host.talk(self.board.clone()));
+        let tried = (0..tries).map(|_| {
+            self.host.wanted = if natural { None } else { self.host.dice.one_of(&rare).to_command() };
+            self.host.talk(self.board.clone())
+        });
         if let Some(talk) = tried.min_by_key(|talk| self.reached.rarest(&talk.met)) {
             self.reached.count(&talk.met);
             self.board = talk.board;

@@ -1,5 +1,7 @@
 //! The session, its carriers and steps, and when it is sound.
 
+use crate::near::Edge;
+
 /// No carrier is connected yet.
 pub const CARRIER_NONE: u8 = 0;
 /// UART is connected.
@@ -55,6 +57,11 @@ impl Expects {
     /// The number expected when the step is entered for X.
     pub(crate) fn for_count(&self, x: usize) -> usize {
         self.least + (x - 1) * self.apart
+    }
+
+    /// Where X lies among those that the step may be entered for.
+    pub(crate) fn edge(&self, x: usize) -> Edge {
+        Edge::of(x, 1, self.count_of(self.greatest))
     }
 
     /// X, read back from an allowed expected number.
@@ -288,6 +295,11 @@ impl Session {
     pub(crate) fn stage(&mut self, byte: u8) {
         self.staged[self.taken] = byte;
         self.taken += 1;
+    }
+
+    /// How many bytes the step still expects.
+    pub(crate) fn left(&self) -> usize {
+        self.expected - self.taken
     }
 
     /// Tells whether the step has taken all that it expects.

@@ -1,5 +1,6 @@
 //! The UART conversation: bytes are staged until a step has all it expects, then the step ends.
 
+use crate::board::SECTORS;
 use crate::commands::{
     count_sent_as_one_less, is_protected, EraseSelector, ACCESS_PROTECT, ACCESS_UNPROTECT, DEVICE_ID, ERASE, FIRMWARE_CRC, GET_COMMANDS,
     GET_DEVICE_ID, GET_VERSION, JUMP, PROTECT, READ_MEMORY, RESET_DEVICE, UART_LIST, UNPROTECT, VERSION, WRITE_MEMORY,
@@ -7,6 +8,7 @@ use crate::commands::{
 use crate::effects::{self, Done};
 use crate::ends::Effect;
 use crate::memories::Memories;
+use crate::near::{Edge, Miss};
 use crate::refused::{require, Refused};
 use crate::reply::{Reply, ACK, NACK};
 use crate::session::{Next, Session, Step, UartStep};
@@ -82,7 +84,7 @@ fn command(bytes: &[u8], memories: &mut Memories, reply: &mut Reply) -> Result<D
             reply.extend(&[ACK, ACK]);
             Ok(effects::resetting(command, memories))
         }
-        _ => Err(Refused::Unknown),
+        _ => Err(Refused::Unknown(Miss::Far)),
     }
 }
 
@@ -104,13 +106,7 @@ fn begin(step: UartStep, reply: &mut Reply) -> Done {
 /// Enters a step for X.
 fn enter(step: UartStep, x: usize) -> Done {
     let step = Step::Uart(step);
-    (Effect::Entered(step), Next::Enter(step, x))
-}
-
-/// Enters a step with an accepted address or special selector.
-fn enter_at(step: UartStep, address: u32) -> Done {
-    let step = Step::Uart(step);
-    (Effect::Entered(step), Next::EnterAt(step, 1, address))
+    (Effect::Entered(step, step.expects().edge(x)), Next::Enter(step, x))
 }
 
 /// Enters, without an answer, a step for the X that was sent as one less.
@@ -141,9 +137,10 @@ fn checked_items(bytes: &[u8], x: usize) -> Result<&[u8], Refused> {
 /// Ends the address of 0x11 or 0x31, which must be in a region.
 fn region_address(bytes: &[u8], then: UartStep, reply: &mut Reply) -> Result<Done, Refused> {
     let address = checked_address(bytes)?;
-    effects::in_a_region(address)?;
+    let (memory, edge) = effects::in_a_region(address)?;
     reply.push(ACK);
-    Ok(enter_at(then, address))
+    let step = Step::Uart(then);
+    Ok((Effect::EnteredAt(step, memory, edge), Next::EnterAt(step, 1, address)))
 }
 
 /// Ends the address of 0x21: ACK and jump.
@@ -156,9 +153,10 @@ fn jump_address(bytes: &[u8], reply: &mut Reply) -> Result<Done, Refused> {
 /// Ends the address of 0xAC, which must be a sector start in flash.
 fn crc_address(bytes: &[u8], reply: &mut Reply) -> Result<Done, Refused> {
     let address = checked_address(bytes)?;
-    effects::sector_start(address)?;
+    let sector = effects::sector_start(address)?;
     reply.push(ACK);
-    Ok(enter_at(UartStep::CrcCount, address))
+    let step = Step::Uart(UartStep::CrcCount);
+    Ok((Effect::Entered(step, Edge::of(sector, 0, SECTORS - 1)), Next::EnterAt(step, 1, address)))
 }
 
 /// Ends 0x11: length less one and its complement, then ACK and the data.
@@ -181,8 +179,13 @@ fn write_data(bytes: &[u8], x: usize, address: u32, memories: &mut Memories, rep
 fn erase_selector(bytes: &[u8]) -> Result<Done, Refused> {
     match EraseSelector::from_bytes(bytes[0], bytes[1]) {
         EraseSelector::List(x) => Ok(enter(UartStep::EraseList, x)),
-        EraseSelector::Special(selector) => Ok(enter_at(UartStep::SpecialCheck, selector)),
-        EraseSelector::Other => Err(Refused::Selector),
+        EraseSelector::Special(selector) => {
+            let step = Step::Uart(UartStep::SpecialCheck);
+            let specials = [EraseSelector::FIRST_SPECIAL, EraseSelector::LAST_SPECIAL].map(usize::from);
+            let edge = Edge::of(selector as usize, specials[0], specials[1]);
+            Ok((Effect::Entered(step, edge), Next::EnterAt(step, 1, selector)))
+        }
+        EraseSelector::Other(miss) => Err(Refused::Selector(miss)),
     }
 }
 

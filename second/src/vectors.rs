@@ -20,11 +20,14 @@ const TRIES: usize = 32;
 
 /// The vectors of a seed, so many.
 pub fn random(seed: u64, count: usize) -> Vec<Vector> {
-    let mut maker = Maker { table: Kind::Calls.table(), dice: Dice::seeded(seed), walk: Walk::seeded(Kind::Mixed, seed) };
+    let (dice, walk) = (Dice::seeded(seed), Walk::seeded(Kind::Mixed, seed));
+    let mut maker = Maker { dice, walk, known: Known::default() };
+    let table = Kind::Calls.table();
     let mut reached = Reached::nothing(Kind::Calls);
     let next = |_| {
-        let tries = if reached.has_enough() { 1 } else { TRIES };
-        let tried = (0..tries).map(|_| maker.vector()).map(|vector| (vector.met(), vector));
+        let rare = reached.wanted();
+        let (tries, wanted) = if rare.is_empty() { (1, &table) } else { (TRIES, &rare) };
+        let tried = (0..tries).map(|_| maker.vector(wanted)).map(|vector| (vector.met(), vector));
         let rarest = tried.min_by_key(|(met, _)| reached.rarest(&[*met]));
         rarest.map(|(met, vector)| {
             reached.count(&[met]);
@@ -43,26 +46,23 @@ pub fn reached(vectors: &[Vector]) -> Reached {
     reached
 }
 
-/// What fits any board.
-fn known(dice: &mut Dice) -> Known {
-    Known { locked: true, recent: edges::address(dice) }
-}
-
 /// Makes vectors.
 struct Maker {
-    table: Vec<Met>,
     dice: Dice,
     walk: Walk,
+    known: Known,
 }
 
 impl Maker {
-    /// A vector.
-    fn vector(&mut self) -> Vector {
+    /// A vector that may meet one of these.
+    fn vector(&mut self, wanted: &[Met]) -> Vector {
+        let wanted = self.dice.one_of(wanted);
+        self.known = Known { locked: true, recent: edges::address(&mut self.dice), wanted: wanted.command };
         let session = if self.dice.once_in(4) {
             self.walk.go_on();
             self.walk.board.session
         } else {
-            self.session()
+            self.session(wanted.at.unwrap_or(Step::None))
         };
         let mut vector = Vector::of(&session, 0);
         self.lend_memories(&mut vector);
@@ -74,18 +74,17 @@ impl Maker {
         vector
     }
 
-    /// A sound session at a step, the more that can come of it the likelier, such as a talk reaches or not, of which often one input is still to come.
-    fn session(&mut self) -> Session {
+    /// A sound session at a step, such as a talk reaches or not, of which often one input is still to come.
+    fn session(&mut self, step: Step) -> Session {
         let dice = &mut self.dice;
-        let step = dice.one_of(&self.table).at.unwrap_or(Step::None);
         let mut session = Session::power_on();
         (session.carrier, session.step) = (step.carrier(), step.number());
         session.address = edges::any_address(dice);
         session.expected = step.expects().near(edges::count(session.address, dice));
         session.speed = dice.below(usize::from(HIGHEST_SPEED) + 1) as u8;
         let items = match step {
-            Step::Uart(step) => inputs::bytes(step, &session, known(dice), dice),
-            Step::Can(step) => inputs::frame(step, &session, known(dice), dice).1,
+            Step::Uart(step) => inputs::bytes(step, &session, self.known, dice),
+            Step::Can(step) => inputs::frame(step, &session, self.known, dice).1,
             Step::None | Step::Running => vec![],
         };
         session.staged.iter_mut().zip(items).take(STAGED_FIRST).for_each(|(byte, item)| *byte = item);
@@ -98,6 +97,7 @@ impl Maker {
     /// Lends memories, fresh or used, one of them now and then of a wrong length.
     fn lend_memories(&mut self, vector: &mut Vector) {
         let dice = &mut self.dice;
+        let address = vector.session().address;
         let any = [dice.byte(), dice.byte()];
         vector.put(STAGED_RULE, &dice.one_of(&[[0, 0], [0, 0], [31, 0], any]));
         let wrong = if dice.once_in(10) { dice.below(3) } else { 3 };
@@ -110,7 +110,7 @@ impl Maker {
             vector.put_buffer(memory, length, &if all_fresh { [fresh, 0] } else { any });
         }
         vector.put(ACCESS, &[edges::access(dice)]);
-        vector.put(SECTOR_BITS, &edges::all_sector_bits(dice));
+        vector.put(SECTOR_BITS, &edges::all_sector_bits(address, dice));
     }
 
     /// Lends a reply buffer, now and then too short.
@@ -128,9 +128,9 @@ impl Maker {
         let session = vector.session();
         let fits = !dice.once_in(6);
         let byte = match session.sound_step() {
-            Some(Step::Uart(step)) if fits => inputs::bytes(step, &session, known(dice), dice)[0],
+            Some(Step::Uart(step)) if fits => inputs::bytes(step, &session, self.known, dice)[0],
             Some(Step::Can(step)) if fits => {
-                let frame = inputs::frame(step, &session, known(dice), dice);
+                let frame = inputs::frame(step, &session, self.known, dice);
                 return self.frame(vector, frame);
             }
             Some(Step::Can(_)) => inputs::connect_byte(dice),

@@ -84,7 +84,7 @@ fn a_short_script_is_counted_by_hand() {
 fn a_pair_not_reached_fails_when_covered_is_asked() {
     let output = script(&["uart", "1", "9", "covered"], b"");
     let report = String::from_utf8(output.stderr).unwrap();
-    assert!(report.contains("not reached: Byte at Uart(CrcCount): Nack(SectorRange)\n"));
+    assert!(report.contains("not reached: Byte at Uart(CrcCount): Nack(SectorRange(Behind))\n"));
     assert_eq!(output.status.code(), Some(1));
     assert_eq!(script(&["uart", "1", "9"], b"").status.code(), Some(0));
 }
