@@ -3,9 +3,7 @@
 /// A run of addresses that one lent memory answers for.
 #[derive(Clone, Copy, Debug, PartialEq, Eq)]
 pub struct Region {
-    /// The first address of the region.
     pub first: u32,
-    /// The number of bytes in the region.
     pub bytes: usize,
 }
 
@@ -28,34 +26,21 @@ impl Region {
     }
 }
 
-/// The number of sectors in flash.
 pub const SECTORS: usize = 32;
-
-/// The number of bytes in a sector.
 pub const SECTOR_BYTES: usize = 1_024;
-
-/// The flash, 32 sectors of 1,024 bytes.
 pub const FLASH: Region = Region { first: 0x0800_0000, bytes: SECTORS * SECTOR_BYTES };
-
-/// The SRAM.
 pub const SRAM: Region = Region { first: 0x2000_0000, bytes: 8_192 };
-
-/// The user system data.
 pub const USD: Region = Region { first: 0x1FFF_F800, bytes: 64 };
 
 /// The three memories by name.
 #[derive(Clone, Copy, Debug, PartialEq, Eq, PartialOrd, Ord)]
 pub enum Memory {
-    /// The flash.
     Flash,
-    /// The SRAM.
     Sram,
-    /// The user system data.
     Usd,
 }
 
 impl Memory {
-    /// Every memory.
     pub const ALL: [Memory; 3] = [Memory::Flash, Memory::Sram, Memory::Usd];
 
     /// The region that the memory answers for.
@@ -73,7 +58,6 @@ pub fn memory_of(address: u32, count: usize) -> Option<(Memory, usize)> {
     Memory::ALL.into_iter().find_map(|memory| Some((memory, memory.region().offset_of(address, count)?)))
 }
 
-/// The value of an erased flash byte.
 pub const ERASED: u8 = 0xFF;
 
 /// The index of the USD byte that turns access protection off or on.
@@ -90,15 +74,7 @@ pub const SECTOR_BITS_FIRST: usize = 8;
 
 /// The number of USD bytes that hold one bit per sector.
 pub const SECTOR_BITS_BYTES: usize = SECTORS / 8;
-
-/// The protocol version.
 pub const PROTOCOL_VERSION: u8 = 0x20;
-
-/// The two bytes of the bootloader version.
 pub const BID: [u8; 2] = [0x01, 0x07];
-
-/// The product ID.
 pub const PRODUCT_ID: u32 = 0x1234_5678;
-
-/// The project ID.
 pub const PROJECT_ID: u8 = 0x5A;

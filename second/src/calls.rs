@@ -9,7 +9,6 @@ use crate::reply::Reply;
 use crate::session::{Session, Step};
 use crate::uart;
 
-/// The number of an accepted call.
 pub const ACCEPTED: u8 = 0;
 
 /// The least length of a UART reply buffer: ACK and 256 bytes read.
@@ -24,20 +23,16 @@ pub const CAN_REPLY_BYTES: usize = 33 * FRAME_BYTES;
 pub enum Cause {
     /// Flash, SRAM or USD has a wrong length.
     MemoryLength = 1,
-    /// The reply buffer is too short.
     ReplyLength = 2,
     /// The frame is not 11 bytes, its ID is over 0x7FF or its DLC over 8.
     BadFrame = 3,
-    /// The session is unsound.
     UnsoundSession = 4,
-    /// The board is running.
     Running = 5,
 }
 
 /// What an accepted call answered.
 #[derive(Clone, Copy, Debug, PartialEq, Eq)]
 pub struct Taken {
-    /// The reply length in bytes.
     pub length: usize,
     /// What was done, or the rule that refused it; the reply then ends with NACK.
     pub ended: Result<Effect, Refused>,
@@ -48,9 +43,7 @@ pub struct Taken {
 pub struct Outcome {
     /// 0 for accepted, else the cause's number.
     pub number: u8,
-    /// The reply length in bytes.
     pub length: usize,
-    /// The next session.
     pub session: Session,
 }
 

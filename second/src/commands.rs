@@ -3,33 +3,22 @@
 use crate::board::{BID, PRODUCT_ID, PROJECT_ID, PROTOCOL_VERSION};
 use crate::near::Miss;
 
-/// Get Commands.
 pub const GET_COMMANDS: u16 = 0x00;
-/// Get Version.
 pub const GET_VERSION: u16 = 0x01;
-/// Get Device ID.
 pub const GET_DEVICE_ID: u16 = 0x02;
 /// Speed, a command on CAN only.
 pub const SPEED: u16 = 0x03;
-/// Read Memory.
 pub const READ_MEMORY: u16 = 0x11;
-/// Jump.
 pub const JUMP: u16 = 0x21;
-/// Write Memory.
 pub const WRITE_MEMORY: u16 = 0x31;
-/// Erase.
 pub const ERASE: u16 = 0x44;
 /// Erase and Program Protect.
 pub const PROTECT: u16 = 0x63;
 /// Erase and Program Unprotect.
 pub const UNPROTECT: u16 = 0x73;
-/// Access Protect.
 pub const ACCESS_PROTECT: u16 = 0x82;
-/// Access Unprotect.
 pub const ACCESS_UNPROTECT: u16 = 0x92;
-/// Firmware CRC.
 pub const FIRMWARE_CRC: u16 = 0xAC;
-/// Reset Device.
 pub const RESET_DEVICE: u16 = 0xD4;
 
 /// The version and the command list that Get Commands sends on UART.

@@ -1,12 +1,7 @@
 //! CRC-32/MPEG-2: high bit first, no reflection, no final XOR; over bytes, and over words.
 
-/// The polynomial.
 const POLYNOMIAL: u32 = 0x04C1_1DB7;
-
-/// The value before the first byte.
 const START: u32 = 0xFFFF_FFFF;
-
-/// The highest bit of the register.
 const HIGH_BIT: u32 = 0x8000_0000;
 
 /// How many words are taken at a time.

@@ -18,21 +18,16 @@ pub enum Effect {
     Waits,
     /// It was not heard: it does not connect, or came on the other carrier, or in no line.
     Unheard,
-    /// It connected its carrier.
     Connected,
-    /// It was told what it asked for.
     Told,
     /// It entered a step with a count, sector or selector.
     Entered(Step, Edge),
     /// It entered a step with an address.
     EnteredAt(Step, Memory, Edge),
-    /// It read from a memory.
     Read(Memory, Span),
-    /// It wrote over bytes of a memory.
     Wrote(Memory, Span),
     /// It wrote, and dropped the padding of its last frame.
     WrotePadded,
-    /// It erased the named sectors.
     ErasedList(Span),
     /// It erased all flash, by one selector or the other.
     ErasedAll(Edge, Span),
@@ -40,21 +35,15 @@ pub enum Effect {
     ProtectedSectors(Span),
     /// It released all sectors.
     ReleasedSectors(Span),
-    /// It turned access protection on.
     Locked,
     /// It turned access protection off and wiped.
     Wiped(Span),
     /// It would have, but protection was off.
     LeftOpen,
-    /// It reset the board.
     Reset,
-    /// It jumped into a memory.
     Jumped(Memory, Edge),
-    /// It was told a checksum.
     Summed(Span),
-    /// It changed the speed.
     ChangedSpeed(Edge),
-    /// It powered the board on.
     PoweredOn,
 }
 
@@ -72,11 +61,8 @@ pub enum End {
 /// What a board is given.
 #[derive(Clone, Copy, Debug, PartialEq, Eq, PartialOrd, Ord)]
 pub enum Given {
-    /// A UART byte.
     Byte,
-    /// A CAN frame.
     Frame,
-    /// Power on.
     Power,
     /// A line that is no line.
     NoLine,
@@ -85,13 +71,11 @@ pub enum Given {
 /// An input that a board met: what, at which step, to which command if that is known, and its end.
 #[derive(Clone, Copy, Debug, PartialEq, Eq, PartialOrd, Ord)]
 pub struct Met {
-    /// What the board was given.
     pub given: Given,
     /// The step that carrier and step number name, if they name one.
     pub at: Option<Step>,
     /// The command that an idle board took, or `ANOTHER`.
     pub command: Option<u16>,
-    /// How it ended.
     pub end: End,
 }
 

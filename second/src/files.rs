@@ -26,9 +26,7 @@ const JUNK: usize = 60;
 /// A random file, and how it is to be loaded.
 #[derive(Clone, Debug, PartialEq, Eq)]
 pub struct RandomFile {
-    /// The file's text.
     pub text: Vec<u8>,
-    /// The shift to load it with.
     pub shift: i16,
     /// The word for the image to load it onto.
     pub onto: &'static str,

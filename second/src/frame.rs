@@ -5,11 +5,7 @@ pub const FRAME_HEAD_BYTES: usize = 3;
 
 /// The data bytes, used or not.
 pub const FRAME_DATA_BYTES: usize = 8;
-
-/// The bytes of a frame.
 pub const FRAME_BYTES: usize = FRAME_HEAD_BYTES + FRAME_DATA_BYTES;
-
-/// The highest ID.
 pub const HIGHEST_ID: u16 = 0x7FF;
 
 /// A well-formed frame.

@@ -13,11 +13,9 @@ use crate::uart::{xor, CONNECT_BYTE};
 /// What a host knows of a board beside its session.
 #[derive(Clone, Copy, Debug, Default)]
 pub struct Known {
-    /// Access protection is on.
     pub locked: bool,
     /// An address that was used last.
     pub recent: u32,
-    /// A command that is wanted.
     pub wanted: Option<u16>,
 }
 

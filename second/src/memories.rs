@@ -5,11 +5,8 @@ use crate::board::{ACCESS_BYTE, ACCESS_OPEN, ERASED, FLASH, SRAM, USD};
 /// The three memories as they are lent to a call, of any length.
 #[derive(Debug)]
 pub struct Memories<'a> {
-    /// The flash.
     pub flash: &'a mut [u8],
-    /// The SRAM.
     pub sram: &'a mut [u8],
-    /// The user system data.
     pub usd: &'a mut [u8],
 }
 
@@ -23,11 +20,8 @@ impl Memories<'_> {
 /// Three memories kept between calls.
 #[derive(Clone, Debug, PartialEq, Eq)]
 pub struct Store {
-    /// The flash.
     pub flash: Vec<u8>,
-    /// The SRAM.
     pub sram: Vec<u8>,
-    /// The user system data.
     pub usd: Vec<u8>,
 }
 

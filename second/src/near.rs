@@ -5,16 +5,12 @@ use crate::board::Memory;
 /// Where a value lies among those that are allowed.
 #[derive(Clone, Copy, Debug, PartialEq, Eq, PartialOrd, Ord)]
 pub enum Edge {
-    /// It is the least.
     Least,
-    /// It is neither.
     Between,
-    /// It is the greatest.
     Most,
 }
 
 impl Edge {
-    /// Every edge.
     pub const ALL: [Edge; 3] = [Edge::Least, Edge::Between, Edge::Most];
 
     /// Where a value lies from the least to the greatest.
@@ -63,7 +59,6 @@ impl Miss {
 /// Which ones of several a rule refuses.
 #[derive(Clone, Copy, Debug, PartialEq, Eq, PartialOrd, Ord)]
 pub enum Which {
-    /// The only one.
     Only,
     /// The first alone, of more.
     First,
@@ -74,7 +69,6 @@ pub enum Which {
 }
 
 impl Which {
-    /// Every one.
     pub const ALL: [Which; 4] = [Which::Only, Which::First, Which::Last, Which::Others];
 
     /// Which ones are refused, if any is.
@@ -137,7 +131,6 @@ impl Outside {
 pub enum Span {
     /// They are as many as there can be.
     Most,
-    /// There is one.
     One,
     /// The last of all is among them.
     AtLast,

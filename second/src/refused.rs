@@ -7,13 +7,10 @@ use crate::near::{Miss, Outside, Which};
 pub enum Refused {
     /// A byte is not the complement of the one before it.
     Complement,
-    /// A checksum is wrong.
     Checksum,
-    /// There is no such command.
     Unknown(Miss),
     /// The command is protected and protection is on.
     Protected,
-    /// The address is in no region.
     NoRegion(Outside),
     /// The X bytes do not all lie in one region.
     Range(Outside),
@@ -35,11 +32,9 @@ pub enum Refused {
     SectorRange(Miss),
     /// The DLC is not the one that the command needs.
     Dlc(Miss),
-    /// The speed is over 3.
     Speed(Miss),
     /// A frame of another ID came while gathering.
     OtherId(Miss),
-    /// DLC 0 came while gathering.
     DlcZero,
     /// Extra bytes are in an index list.
     ExtraBytes(Miss),

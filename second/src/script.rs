@@ -21,9 +21,7 @@ const CHARACTERS: &[u8] = b"UCP 09AF/:@G`gau\t\r\0\x0B\x0C\x1F\x7F\x80\xD5\xFF";
 /// A board that tells what it met.
 #[derive(Clone, Debug)]
 pub struct Board {
-    /// The session.
     pub session: Session,
-    /// The memories.
     pub store: Store,
     recent: u32,
 }
@@ -194,7 +192,6 @@ struct Talk {
 /// A walk along a board, and the lines that led it there.
 #[derive(Clone, Debug)]
 pub struct Walk {
-    /// The board.
     pub board: Board,
     host: Host,
     reached: Reached,

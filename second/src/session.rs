@@ -2,22 +2,12 @@
 
 use crate::near::Edge;
 
-/// No carrier is connected yet.
 pub const CARRIER_NONE: u8 = 0;
-/// UART is connected.
 pub const CARRIER_UART: u8 = 1;
-/// CAN is connected.
 pub const CARRIER_CAN: u8 = 2;
-/// The board has jumped and is running.
 pub const CARRIER_RUNNING: u8 = 3;
-
-/// The highest speed number.
 pub const HIGHEST_SPEED: u8 = 3;
-
-/// The speed number of a fresh session.
 pub const FRESH_SPEED: u8 = 2;
-
-/// The number of staged bytes.
 pub const STAGED_BYTES: usize = 257;
 
 /// What a step may expect: `least` for X = 1, `apart` more for each further X, up to `greatest`.
@@ -183,13 +173,9 @@ impl CanStep {
 /// The carrier and step of a sound session.
 #[derive(Clone, Copy, Debug, PartialEq, Eq, PartialOrd, Ord)]
 pub enum Step {
-    /// Carrier none.
     None,
-    /// A UART step.
     Uart(UartStep),
-    /// A CAN step.
     Can(CanStep),
-    /// The board is running.
     Running,
 }
 
@@ -260,13 +246,10 @@ pub struct Session {
     pub carrier: u8,
     /// The step's number within its carrier.
     pub step: u8,
-    /// How many bytes the step has taken.
     pub taken: usize,
-    /// How many bytes the step expects.
     pub expected: usize,
     /// The accepted address, special selector or jump target.
     pub address: u32,
-    /// The CAN speed number.
     pub speed: u8,
     /// The bytes taken so far, each at its index.
     pub staged: [u8; STAGED_BYTES],

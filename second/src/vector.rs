@@ -24,11 +24,8 @@ const MODULUS: u32 = 65_521;
 #[derive(Clone, Copy, Debug)]
 pub struct Buffer(usize, pub usize);
 
-/// The flash.
 pub const FLASH: Buffer = Buffer(41, 40_000);
-/// The SRAM.
 pub const SRAM: Buffer = Buffer(47, 10_000);
-/// The user system data.
 pub const USD: Buffer = Buffer(53, 80);
 /// The reply buffer, which has no stride.
 pub const REPLY: Buffer = Buffer(64, 400);
@@ -62,11 +59,8 @@ pub struct Vector {
 pub struct After {
     /// What the call gave.
     pub called: Result<Taken, Cause>,
-    /// The next session.
     pub session: Session,
-    /// The memories.
     pub store: Store,
-    /// The reply buffer.
     pub reply: Vec<u8>,
 }
 

@@ -10,10 +10,7 @@ use std::os::unix::ffi::OsStrExt;
 use std::path::Path;
 use std::process::ExitCode;
 
-/// How the program is run.
 const USAGE: &str = "image FILE NEW SHIFT [OLD]";
-
-/// The exit status of a run with other words.
 const MISUSED: u8 = 2;
 
 /// What is wanted of the program.

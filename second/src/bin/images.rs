@@ -8,10 +8,7 @@ use std::io::{self, Write};
 use std::path::Path;
 use std::process::ExitCode;
 
-/// How the program is run.
 const USAGE: &str = "images [FILE SHIFT BYTES]...";
-
-/// The exit status of a run with other words.
 const MISUSED: u8 = 2;
 
 /// The words of one loading.

@@ -6,10 +6,7 @@ use std::env;
 use std::io::{self, Read, Write};
 use std::process::ExitCode;
 
-/// How the program is run.
 const USAGE: &str = "script uart|mixed SEED LINES [covered] | script uart|mixed count [covered]";
-
-/// The exit status of a run with other words.
 const MISUSED: u8 = 2;
 
 /// The lines of the script on standard input.

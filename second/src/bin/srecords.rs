@@ -6,10 +6,7 @@ use std::env;
 use std::io::{self, Write};
 use std::process::ExitCode;
 
-/// How the program is run.
 const USAGE: &str = "srecords SEED | srecords SEED COUNT [covered]";
-
-/// The exit status of a run with other words.
 const MISUSED: u8 = 2;
 
 /// Prints the file of a seed, and on standard error its shift and image.

@@ -8,10 +8,7 @@ use std::env;
 use std::io::{self, Write};
 use std::process::ExitCode;
 
-/// How the program is run.
 const USAGE: &str = "vectors generate SEED COUNT [covered] | vectors run | vectors count [covered]";
-
-/// The exit status of a run with other words.
 const MISUSED: u8 = 2;
 
 /// Prints the vectors of a seed, and tells what they reach.

@@ -4,7 +4,6 @@ use super::lines::lines;
 use super::record::{Flaw, Kind, Record};
 use crate::board::{FLASH, SECTOR_BYTES};
 
-/// The number of an accepted text.
 pub const ACCEPTED: u8 = 0;
 
 /// Why a text is refused, in Wish 1's order, with the type digit's value of the line that decides.
@@ -41,9 +40,7 @@ impl Cause {
 /// A refused text: why, and the line that decides, from 1, or 0 where no line does.
 #[derive(Clone, Copy, Debug, PartialEq, Eq)]
 pub struct Refusal {
-    /// Why it is refused.
     pub cause: Cause,
-    /// The line's number.
     pub line: usize,
 }
 

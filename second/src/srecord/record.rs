@@ -62,7 +62,6 @@ pub enum Flaw {
 /// A line that is not bad.
 #[derive(Clone, Copy, Debug, PartialEq, Eq)]
 pub struct Record<'t> {
-    /// What the record is.
     pub kind: Kind,
     /// The type digit's value.
     pub digit: u8,
