@@ -6,7 +6,7 @@ use crate::frame::{Frame, FRAME_BYTES};
 use crate::memories::Memories;
 use crate::refused::Refused;
 use crate::reply::Reply;
-use crate::session::{Session, Step};
+use crate::session::{Session, Step, Unsound};
 use crate::uart;
 
 pub const ACCEPTED: u8 = 0;
@@ -19,15 +19,27 @@ pub const CAN_REPLY_BYTES: usize = 33 * FRAME_BYTES;
 
 /// Why a call is refused, in the order in which the causes are tested.
 #[derive(Clone, Copy, Debug, PartialEq, Eq, PartialOrd, Ord)]
-#[repr(u8)]
 pub enum Cause {
     /// Flash, SRAM or USD has a wrong length.
-    MemoryLength = 1,
-    ReplyLength = 2,
+    MemoryLength,
+    ReplyLength,
     /// The frame is not 11 bytes, its ID is over 0x7FF or its DLC over 8.
-    BadFrame = 3,
-    UnsoundSession = 4,
-    Running = 5,
+    BadFrame,
+    UnsoundSession(Unsound),
+    Running,
+}
+
+impl Cause {
+    /// The cause's number.
+    pub fn number(self) -> u8 {
+        match self {
+            Cause::MemoryLength => 1,
+            Cause::ReplyLength => 2,
+            Cause::BadFrame => 3,
+            Cause::UnsoundSession(_) => 4,
+            Cause::Running => 5,
+        }
+    }
 }
 
 /// What an accepted call answered.
@@ -52,7 +64,7 @@ impl Outcome {
     fn of(called: Result<Taken, Cause>, session: Session) -> Outcome {
         match called {
             Ok(taken) => Outcome { number: ACCEPTED, length: taken.length, session },
-            Err(cause) => Outcome { number: cause as u8, length: 0, session },
+            Err(cause) => Outcome { number: cause.number(), length: 0, session },
         }
     }
 }
@@ -72,7 +84,7 @@ pub fn take_can_frame(mut session: Session, frame: &[u8], memories: &mut Memorie
 /// Takes one UART byte, changing the session in place, and tells what was answered.
 pub fn uart_byte_in_place(session: &mut Session, byte: u8, memories: &mut Memories, reply: &mut [u8]) -> Result<Taken, Cause> {
     test_buffers(memories, reply, UART_REPLY_BYTES)?;
-    let step = session.sound_step().ok_or(Cause::UnsoundSession)?;
+    let step = session.sound_step().map_err(Cause::UnsoundSession)?;
     let mut reply = Reply::in_buffer(reply);
     let ended = match step {
         Step::Running => return Err(Cause::Running),
@@ -88,7 +100,7 @@ pub fn uart_byte_in_place(session: &mut Session, byte: u8, memories: &mut Memori
 pub fn can_frame_in_place(session: &mut Session, frame: &[u8], memories: &mut Memories, reply: &mut [u8]) -> Result<Taken, Cause> {
     test_buffers(memories, reply, CAN_REPLY_BYTES)?;
     let frame = Frame::read(frame).ok_or(Cause::BadFrame)?;
-    let step = session.sound_step().ok_or(Cause::UnsoundSession)?;
+    let step = session.sound_step().map_err(Cause::UnsoundSession)?;
     let mut reply = Reply::in_buffer(reply);
     let ended = match step {
         Step::Running => return Err(Cause::Running),

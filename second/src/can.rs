@@ -179,7 +179,7 @@ fn erase(frame: &Frame, memories: &mut Memories, frames: &mut Frames) -> Result<
         }
         EraseSelector::Special(selector) => {
             frames.send(&[ACK]);
-            let done = effects::erase_special(memories, selector)?;
+            let done = effects::erase_special(memories, selector, Ok(()))?;
             frames.send(&[ACK]);
             Ok(done)
         }
@@ -220,8 +220,8 @@ fn end_gathering(step: CanStep, session: &Session, memories: &mut Memories) -> R
     let bytes = &session.staged[..session.expected];
     match step {
         CanStep::Idle => Err(Refused::Unknown(Miss::Far)),
-        CanStep::WriteData => effects::write(memories, session.address, bytes),
-        CanStep::EraseList => effects::erase_list(memories, bytes),
-        CanStep::ProtectList => effects::protect_only(memories, bytes),
+        CanStep::WriteData => effects::write(memories, session.address, bytes, Ok(())),
+        CanStep::EraseList => effects::erase_list(memories, bytes, Ok(())),
+        CanStep::ProtectList => effects::protect_only(memories, bytes, Ok(())),
     }
 }

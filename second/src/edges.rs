@@ -10,7 +10,7 @@ const REGIONS: [(Region, usize); 5] =
 
 /// How far an address is from the start of a region, from a border in it, and from its end.
 const FROM_START: [i32; 4] = [0, 0, 1, -1];
-const FROM_BORDER: [i32; 6] = [0, 0, 0, -1, -2, -8];
+const FROM_BORDER: [i32; 7] = [0, 0, 0, -1, -2, -8, -512];
 const FROM_END: [i32; 8] = [0, 0, -1, -1, -2, -8, -256, -1024];
 
 /// Counts X of bytes or of sector indexes.
@@ -142,11 +142,11 @@ pub fn huge(dice: &mut Dice) -> u64 {
     dice.one_of(&HUGE)
 }
 
-/// USD bytes 8 to 11: no sector protected, one alone, or any of the table.
+/// USD bytes 8 to 11: no sector protected, one alone, two that lie side by side, or any of the table.
 pub fn all_sector_bits(address: u32, dice: &mut Dice) -> [u8; SECTOR_BITS_BYTES] {
-    let one: u32 = !(1 << sector(address, dice));
+    let [one, two] = [1, 3_u32].map(|bits| (!(bits << sector(address, dice))).to_le_bytes());
     let any = [0; SECTOR_BITS_BYTES].map(|_| sector_bits(dice));
-    dice.one_of(&[[0xFF; SECTOR_BITS_BYTES], one.to_le_bytes(), any])
+    dice.one_of(&[[0xFF; SECTOR_BITS_BYTES], one, two, any])
 }
 
 /// A length near the right one, or far from it, up to the most.

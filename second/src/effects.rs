@@ -24,6 +24,9 @@ const NO_SECTOR_PROTECTED: [u8; SECTOR_BITS_BYTES] = [0xFF; SECTOR_BITS_BYTES];
 /// What an obeyed input did, and where the session goes.
 pub type Done = (Effect, Next);
 
+/// A check that a carrier has beside the rules; it is tested last, so that it alone refuses what it refuses.
+pub type Last = Result<(), Refused>;
+
 /// Tells whether access protection is on.
 pub fn protection_is_on(usd: &[u8]) -> bool {
     usd[ACCESS_BYTE] != ACCESS_OPEN
@@ -108,9 +111,10 @@ pub fn writable(memories: &Memories, address: u32, x: usize) -> Result<(Memory, 
     Ok((memory, offset))
 }
 
-/// Writes the data where it may go, or refuses it whole.
-pub fn write(memories: &mut Memories, address: u32, data: &[u8]) -> Result<Done, Refused> {
+/// Writes the data where it may go, or refuses it whole; what `last` says is tested last.
+pub fn write(memories: &mut Memories, address: u32, data: &[u8], last: Last) -> Result<Done, Refused> {
     let (memory, offset) = writable(memories, address, data.len())?;
+    last?;
     let border = at_border(memories, memory, offset, data.len());
     let (bytes, next) = match memory {
         Memory::Flash => (&mut *memories.flash, Next::Idle),
@@ -139,9 +143,10 @@ fn at_border(memories: &Memories, memory: Memory, offset: usize, x: usize) -> Op
 }
 
 /// Erases the sectors named by two-byte numbers, high first, or refuses the whole list.
-pub fn erase_list(memories: &mut Memories, list: &[u8]) -> Result<Done, Refused> {
+pub fn erase_list(memories: &mut Memories, list: &[u8], last: Last) -> Result<Done, Refused> {
     all_are_sectors(sector_numbers(list))?;
     none_is_protected(memories.usd, sector_numbers(list))?;
+    last?;
     let mut bytes = Span::Fresh;
     for sector in sector_numbers(list) {
         let sector = &mut memories.flash[sector * SECTOR_BYTES..][..SECTOR_BYTES];
@@ -166,20 +171,22 @@ fn sector_numbers(list: &[u8]) -> impl Iterator<Item = usize> + Clone + '_ {
 }
 
 /// Erases all flash for the two selectors that mean it, unless a sector is write-protected.
-pub fn erase_special(memories: &mut Memories, selector: u32) -> Result<Done, Refused> {
+pub fn erase_special(memories: &mut Memories, selector: u32, last: Last) -> Result<Done, Refused> {
     let all_flash = selector == ERASE_ALL || selector == ERASE_BANK_1;
     let miss = if selector + 1 == ERASE_BANK_1 { Miss::Before } else { Miss::by_high_byte(selector & ERASE_ALL >= ERASE_BANK_1) };
     require(all_flash, Refused::SpecialErase(miss))?;
     none_is_protected(memories.usd, 0..SECTORS)?;
+    last?;
     let bytes = used(Memory::Flash, memories.flash);
     memories.flash.fill(ERASED);
     Ok((Effect::ErasedAll(Edge::of(selector as usize, ERASE_BANK_1 as usize, ERASE_ALL as usize), bytes), Next::Idle))
 }
 
 /// Makes the indexed sectors the only protected ones, then reset, or refuses all.
-pub fn protect_only(memories: &mut Memories, indexes: &[u8]) -> Result<Done, Refused> {
+pub fn protect_only(memories: &mut Memories, indexes: &[u8], last: Last) -> Result<Done, Refused> {
     let sectors = indexes.iter().map(|index| usize::from(*index));
     all_are_sectors(sectors.clone())?;
+    last?;
     let mut bits = NO_SECTOR_PROTECTED;
     for sector in sectors.clone() {
         bits[sector / 8] &= !(1 << (sector % 8));

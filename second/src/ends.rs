@@ -9,7 +9,7 @@ use crate::commands::{
 };
 use crate::near::{Edge, Miss, Outside, Span, Which};
 use crate::refused::Refused;
-use crate::session::{CanStep, Step, UartStep};
+use crate::session::{CanStep, Step, UartStep, Unsound, CARRIER_NONE, CARRIER_RUNNING};
 
 /// What an obeyed input did, where, and with which bytes.
 #[derive(Clone, Copy, Debug, PartialEq, Eq, PartialOrd, Ord)]
@@ -20,9 +20,8 @@ pub enum Effect {
     Unheard,
     Connected,
     Told,
-    /// It entered a step with a count, sector or selector.
+    /// It entered a step with a count, sector or selector, or with an address.
     Entered(Step, Edge),
-    /// It entered a step with an address.
     EnteredAt(Step, Memory, Edge),
     Read(Memory, Span),
     Wrote(Memory, Span),
@@ -33,10 +32,8 @@ pub enum Effect {
     ErasedAll(Edge, Span),
     /// It made sectors the only protected ones; they are used if others were.
     ProtectedSectors(Span),
-    /// It released all sectors.
     ReleasedSectors(Span),
     Locked,
-    /// It turned access protection off and wiped.
     Wiped(Span),
     /// It would have, but protection was off.
     LeftOpen,
@@ -50,11 +47,9 @@ pub enum Effect {
 /// How an input ended.
 #[derive(Clone, Copy, Debug, PartialEq, Eq, PartialOrd, Ord)]
 pub enum End {
-    /// The call was refused.
     Cause(Cause),
     /// The answer ended with NACK.
     Nack(Refused),
-    /// The input was obeyed.
     Did(Effect),
 }
 
@@ -155,15 +150,14 @@ impl Kind {
     fn causes(self, given: Given, at: Option<Step>) -> impl Iterator<Item = Cause> {
         let call = matches!(given, Given::Byte | Given::Frame);
         let single = self == Kind::Calls;
-        [
+        let causes = [
             (Cause::MemoryLength, single),
             (Cause::ReplyLength, single),
             (Cause::BadFrame, given == Given::Frame),
-            (Cause::UnsoundSession, single),
             (Cause::Running, call && at == Some(Step::Running)),
-        ]
-        .into_iter()
-        .filter_map(|(cause, can_be)| can_be.then_some(cause))
+        ];
+        let unsound = unsound(at).into_iter().map(move |why| (Cause::UnsoundSession(why), single));
+        causes.into_iter().chain(unsound).filter_map(|(cause, can_be)| can_be.then_some(cause))
     }
 
     /// How a single call can end at a step only in sessions that no talk reaches.
@@ -177,6 +171,18 @@ impl Kind {
             _ => vec![],
         }
     }
+}
+
+/// Why a session can be unsound at a step, or at none.
+fn unsound(at: Option<Step>) -> Vec<Unsound> {
+    use Unsound::{Carrier, Expected, Speed, Taken};
+    let Some(step) = at else {
+        return (CARRIER_NONE..=CARRIER_RUNNING).map(Unsound::Step).chain([Carrier]).collect();
+    };
+    let mut all = vec![Speed, Expected(Miss::Before), Expected(Miss::Behind), Expected(Miss::Far)];
+    all.extend(matches!(step, Step::Uart(UartStep::EraseList) | Step::Can(CanStep::EraseList)).then_some(Expected(Miss::Between)));
+    all.extend(Edge::ALL.map(Taken));
+    all
 }
 
 /// The ends of rules that refuse and of effects.

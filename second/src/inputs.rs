@@ -172,7 +172,7 @@ fn any_data(dice: &mut Dice) -> Vec<u8> {
 fn other_id(id: u16, dice: &mut Dice) -> u16 {
     let near = id ^ (1 << dice.below(11));
     let command = edges::command(true, dice);
-    dice.one_of(&[near, near, command, CONNECT_ID, 0x7FF, 0x800 | id])
+    dice.one_of(&[near, near, command, CONNECT_ID, 0x7FF, 0x800, 0x800 | id])
 }
 
 /// Flips a bit or all bits of a byte, or drops, inserts or repeats one, often the last.

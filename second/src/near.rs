@@ -30,6 +30,8 @@ pub enum Miss {
     Before,
     /// It is one too great.
     Behind,
+    /// It lies between those that are allowed.
+    Between,
     /// Only what is above its low byte is wrong.
     HighByte,
     /// It is farther away.

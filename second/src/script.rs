@@ -68,7 +68,7 @@ impl Board {
 
     /// What is met by what is no call.
     fn no_call(&self, given: Given, effect: Effect) -> Met {
-        Met { given, at: self.session.sound_step(), command: None, end: End::Did(effect) }
+        Met { given, at: self.session.sound_step().ok(), command: None, end: End::Did(effect) }
     }
 }
 
@@ -98,7 +98,7 @@ impl Host {
 
     /// A line for where a board is.
     fn line(&mut self, board: &Board) -> Vec<u8> {
-        let step = board.session.sound_step();
+        let step = board.session.sound_step().ok();
         match (self.dice.below(48 + board.session.left()), step) {
             (0, _) => b"P".to_vec(),
             (1..5, _) => self.no_line(),

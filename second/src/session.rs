@@ -1,6 +1,6 @@
 //! The session, its carriers and steps, and when it is sound.
 
-use crate::near::Edge;
+use crate::near::{Edge, Miss};
 
 pub const CARRIER_NONE: u8 = 0;
 pub const CARRIER_UART: u8 = 1;
@@ -29,9 +29,15 @@ impl Expects {
         Expects { least, greatest, apart }
     }
 
-    /// Tells whether the step may expect this number.
-    pub fn allows(&self, expected: usize) -> bool {
-        (self.least..=self.greatest).contains(&expected) && (expected - self.least).is_multiple_of(self.apart)
+    /// Refuses a number that the step may not expect.
+    fn test(&self, expected: usize) -> Result<(), Unsound> {
+        match expected {
+            _ if expected > self.beyond() || expected + self.apart < self.least => Err(Unsound::Expected(Miss::Far)),
+            _ if expected + self.apart == self.least => Err(Unsound::Expected(Miss::Before)),
+            _ if expected == self.beyond() => Err(Unsound::Expected(Miss::Behind)),
+            _ if !(expected + self.apart - self.least).is_multiple_of(self.apart) => Err(Unsound::Expected(Miss::Between)),
+            _ => Ok(()),
+        }
     }
 
     /// The number that the step may expect for X, or for the X nearest to it.
@@ -239,6 +245,21 @@ pub enum Next {
     Running(u32),
 }
 
+/// Why a session is unsound.
+#[derive(Clone, Copy, Debug, PartialEq, Eq, PartialOrd, Ord)]
+pub enum Unsound {
+    /// The carrier exceeds 3.
+    Carrier,
+    /// The step is not one of this carrier's.
+    Step(u8),
+    /// The speed exceeds 3.
+    Speed,
+    /// What is expected is not allowed for the step.
+    Expected(Miss),
+    /// Taken is not below expected.
+    Taken(Edge),
+}
+
 /// All that the board remembers between calls, apart from the memories.
 #[derive(Clone, Copy, Debug, PartialEq, Eq)]
 pub struct Session {
@@ -261,11 +282,16 @@ impl Session {
         Session { carrier: CARRIER_NONE, step: ONLY_STEP, taken: 0, expected: 1, address: 0, speed: FRESH_SPEED, staged: [0; STAGED_BYTES] }
     }
 
-    /// The session's step, or nothing exactly when the session is unsound.
-    pub fn sound_step(&self) -> Option<Step> {
-        let step = Step::named(self.carrier, self.step)?;
-        let sound = self.speed <= HIGHEST_SPEED && step.expects().allows(self.expected) && self.taken < self.expected;
-        sound.then_some(step)
+    /// The session's step, or why the session is unsound.
+    pub fn sound_step(&self) -> Result<Step, Unsound> {
+        let no_step = if self.carrier > CARRIER_RUNNING { Unsound::Carrier } else { Unsound::Step(self.carrier) };
+        let step = Step::named(self.carrier, self.step).ok_or(no_step)?;
+        step.expects().test(self.expected)?;
+        match self.taken {
+            _ if self.speed > HIGHEST_SPEED => Err(Unsound::Speed),
+            taken if taken >= self.expected => Err(Unsound::Taken(Edge::of(taken, self.expected, usize::MAX))),
+            _ => Ok(step),
+        }
     }
 
     /// Tells whether no command is under way.

@@ -5,7 +5,7 @@ use crate::commands::{
     count_sent_as_one_less, is_protected, EraseSelector, ACCESS_PROTECT, ACCESS_UNPROTECT, DEVICE_ID, ERASE, FIRMWARE_CRC, GET_COMMANDS,
     GET_DEVICE_ID, GET_VERSION, JUMP, PROTECT, READ_MEMORY, RESET_DEVICE, UART_LIST, UNPROTECT, VERSION, WRITE_MEMORY,
 };
-use crate::effects::{self, Done};
+use crate::effects::{self, Done, Last};
 use crate::ends::Effect;
 use crate::memories::Memories;
 use crate::near::{Edge, Miss};
@@ -119,25 +119,24 @@ pub fn xor(bytes: &[u8]) -> u8 {
     bytes.iter().fold(0, |sum, byte| sum ^ byte)
 }
 
-/// The four address bytes, high first, refused if the fifth is not their XOR.
-fn checked_address(bytes: &[u8]) -> Result<u32, Refused> {
+/// The four address bytes, high first, and whether the fifth is their XOR.
+fn checked_address(bytes: &[u8]) -> (u32, Last) {
     let address = [bytes[0], bytes[1], bytes[2], bytes[3]];
-    require(bytes[4] == xor(&address), Refused::Checksum)?;
-    Ok(u32::from_be_bytes(address))
+    (u32::from_be_bytes(address), require(bytes[4] == xor(&address), Refused::Checksum))
 }
 
-/// The X items before the last byte, which must be the XOR of X - 1 and of all of them.
-fn checked_items(bytes: &[u8], x: usize) -> Result<&[u8], Refused> {
+/// The X items before the last byte, and whether that is the XOR of X - 1 and of all of them.
+fn checked_items(bytes: &[u8], x: usize) -> (&[u8], Last) {
     let (items, check) = bytes.split_at(bytes.len() - 1);
     let sent = (x - 1) as u8;
-    require(check[0] == sent ^ xor(items), Refused::Checksum)?;
-    Ok(items)
+    (items, require(check[0] == sent ^ xor(items), Refused::Checksum))
 }
 
 /// Ends the address of 0x11 or 0x31, which must be in a region.
 fn region_address(bytes: &[u8], then: UartStep, reply: &mut Reply) -> Result<Done, Refused> {
-    let address = checked_address(bytes)?;
+    let (address, check) = checked_address(bytes);
     let (memory, edge) = effects::in_a_region(address)?;
+    check?;
     reply.push(ACK);
     let step = Step::Uart(then);
     Ok((Effect::EnteredAt(step, memory, edge), Next::EnterAt(step, 1, address)))
@@ -145,15 +144,18 @@ fn region_address(bytes: &[u8], then: UartStep, reply: &mut Reply) -> Result<Don
 
 /// Ends the address of 0x21: ACK and jump.
 fn jump_address(bytes: &[u8], reply: &mut Reply) -> Result<Done, Refused> {
-    let running = effects::jump(checked_address(bytes)?)?;
+    let (address, check) = checked_address(bytes);
+    let running = effects::jump(address)?;
+    check?;
     reply.push(ACK);
     Ok(running)
 }
 
 /// Ends the address of 0xAC, which must be a sector start in flash.
 fn crc_address(bytes: &[u8], reply: &mut Reply) -> Result<Done, Refused> {
-    let address = checked_address(bytes)?;
+    let (address, check) = checked_address(bytes);
     let sector = effects::sector_start(address)?;
+    check?;
     reply.push(ACK);
     let step = Step::Uart(UartStep::CrcCount);
     Ok((Effect::Entered(step, Edge::of(sector, 0, SECTORS - 1)), Next::EnterAt(step, 1, address)))
@@ -161,8 +163,8 @@ fn crc_address(bytes: &[u8], reply: &mut Reply) -> Result<Done, Refused> {
 
 /// Ends 0x11: length less one and its complement, then ACK and the data.
 fn read_length(bytes: &[u8], address: u32, memories: &Memories, reply: &mut Reply) -> Result<Done, Refused> {
-    require(bytes[1] == !bytes[0], Refused::Complement)?;
     let (effect, data) = effects::read(memories, address, count_sent_as_one_less(bytes[0]))?;
+    require(bytes[1] == !bytes[0], Refused::Complement)?;
     reply.push(ACK);
     reply.extend(data);
     Ok((effect, Next::Idle))
@@ -170,7 +172,8 @@ fn read_length(bytes: &[u8], address: u32, memories: &Memories, reply: &mut Repl
 
 /// Ends 0x31: the data and the XOR of length less one and data, then one ACK.
 fn write_data(bytes: &[u8], x: usize, address: u32, memories: &mut Memories, reply: &mut Reply) -> Result<Done, Refused> {
-    let done = effects::write(memories, address, checked_items(bytes, x)?)?;
+    let (data, check) = checked_items(bytes, x);
+    let done = effects::write(memories, address, data, check)?;
     reply.push(ACK);
     Ok(done)
 }
@@ -192,32 +195,32 @@ fn erase_selector(bytes: &[u8]) -> Result<Done, Refused> {
 /// Ends a special erase: the check is against the XOR of the address's two low bytes.
 fn special_check(bytes: &[u8], address: u32, memories: &mut Memories, reply: &mut Reply) -> Result<Done, Refused> {
     let [_, _, high, low] = address.to_be_bytes();
-    require(bytes[0] == high ^ low, Refused::Checksum)?;
-    let done = effects::erase_special(memories, address)?;
+    let done = effects::erase_special(memories, address, require(bytes[0] == high ^ low, Refused::Checksum))?;
     reply.push(ACK);
     Ok(done)
 }
 
 /// Ends 0x44 with a list: X sector numbers and the XOR of selector and numbers.
 fn erase_list(bytes: &[u8], x: usize, memories: &mut Memories, reply: &mut Reply) -> Result<Done, Refused> {
-    let done = effects::erase_list(memories, checked_items(bytes, x)?)?;
+    let (list, check) = checked_items(bytes, x);
+    let done = effects::erase_list(memories, list, check)?;
     reply.push(ACK);
     Ok(done)
 }
 
 /// Ends 0x63: X indexes and the XOR of all, then reset.
 fn protect_list(bytes: &[u8], x: usize, memories: &mut Memories, reply: &mut Reply) -> Result<Done, Refused> {
-    let done = effects::protect_only(memories, checked_items(bytes, x)?)?;
+    let (indexes, check) = checked_items(bytes, x);
+    let done = effects::protect_only(memories, indexes, check)?;
     reply.push(ACK);
     Ok(done)
 }
 
 /// Ends 0xAC: two bytes of sectors less one and their XOR with 0xFF, then ACK and the CRC.
 fn crc_count(bytes: &[u8], address: u32, memories: &Memories, reply: &mut Reply) -> Result<Done, Refused> {
-    let check = bytes[0] ^ bytes[1] ^ 0xFF;
-    require(bytes[2] == check, Refused::Checksum)?;
     let sectors = count_sent_as_one_less(u16::from_be_bytes([bytes[0], bytes[1]]));
     let (effect, crc) = effects::firmware_crc(memories, address, sectors)?;
+    require(bytes[2] == bytes[0] ^ bytes[1] ^ 0xFF, Refused::Checksum)?;
     reply.push(ACK);
     reply.extend(&crc.to_be_bytes());
     Ok((effect, Next::Idle))

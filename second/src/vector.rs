@@ -218,7 +218,7 @@ impl Vector {
         let After { called, session, store, reply } = self.call();
         let (number, length) = match called {
             Ok(taken) => (ACCEPTED, taken.length),
-            Err(cause) => (cause as u8, 0),
+            Err(cause) => (cause.number(), 0),
         };
         let mut bytes = vec![number];
         bytes.extend((length as u64).to_be_bytes());

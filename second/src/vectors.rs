@@ -1,10 +1,10 @@
 //! Random vectors: sessions met on a walk or made by hand, with an input that fits, of which some are spoilt.
 
 use crate::board::{self, ERASED};
-use crate::calls::{CAN_REPLY_BYTES, UART_REPLY_BYTES};
+use crate::calls::{Cause, CAN_REPLY_BYTES, UART_REPLY_BYTES};
 use crate::dice::Dice;
 use crate::edges;
-use crate::ends::{Kind, Met};
+use crate::ends::{End, Kind, Met};
 use crate::frame::{frame_bytes, FRAME_HEAD_BYTES};
 use crate::inputs::{self, Known};
 use crate::reached::Reached;
@@ -16,7 +16,7 @@ use crate::vector::{
 };
 
 /// How many vectors are tried, while there is something to reach, for the one that reaches the rarest.
-const TRIES: usize = 32;
+const TRIES: usize = 48;
 
 /// The vectors of a seed, so many.
 pub fn random(seed: u64, count: usize) -> Vec<Vector> {
@@ -68,7 +68,8 @@ impl Maker {
         self.lend_memories(&mut vector);
         self.lend_reply(&mut vector);
         self.input(&mut vector);
-        if self.dice.once_in(6) {
+        let unsound = matches!(wanted.end, End::Cause(Cause::UnsoundSession(_)));
+        if unsound || self.dice.once_in(12) {
             self.unsound(&mut vector);
         }
         vector
@@ -97,7 +98,7 @@ impl Maker {
     /// Lends memories, fresh or used, one of them now and then of a wrong length.
     fn lend_memories(&mut self, vector: &mut Vector) {
         let dice = &mut self.dice;
-        let address = vector.session().address;
+        let address = dice.one_of(&[vector.session().address, self.known.recent]);
         let any = [dice.byte(), dice.byte()];
         vector.put(STAGED_RULE, &dice.one_of(&[[0, 0], [0, 0], [31, 0], any]));
         let wrong = if dice.once_in(10) { dice.below(3) } else { 3 };
@@ -127,7 +128,7 @@ impl Maker {
         let dice = &mut self.dice;
         let session = vector.session();
         let fits = !dice.once_in(6);
-        let byte = match session.sound_step() {
+        let byte = match session.sound_step().ok() {
             Some(Step::Uart(step)) if fits => inputs::bytes(step, &session, self.known, dice)[0],
             Some(Step::Can(step)) if fits => {
                 let frame = inputs::frame(step, &session, self.known, dice);
@@ -167,7 +168,7 @@ impl Maker {
         let dice = &mut self.dice;
         let session = vector.session();
         let expected = session.expected as u64;
-        let beyond = session.sound_step().map_or(0, |step| step.expects().beyond()) as u64;
+        let beyond = Step::named(session.carrier, session.step).map_or(0, |step| step.expects().beyond()) as u64;
         let huge = edges::huge(dice);
         match dice.below(8) {
             0 => vector.put(STEP, &[dice.one_of(&[1, 4, 14, 0xFF])]),

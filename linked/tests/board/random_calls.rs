@@ -49,7 +49,7 @@ fn second_call(vector: &Vector) -> (Taken, Bench) {
     let after = vector.call();
     let (number, length) = match after.called {
         Ok(taken) => (ACCEPTED, taken.length),
-        Err(cause) => (cause as u8, 0),
+        Err(cause) => (cause.number(), 0),
     };
     let bench = Bench {
         session: session_bytes(&after.session).to_vec(),

@@ -36,7 +36,7 @@ fn every_call_keeps_its_promises() {
         match after.called {
             Ok(taken) => {
                 assert_eq!(after.reply[taken.length..], reply[taken.length..]);
-                assert!(after.session.sound_step().is_some());
+                assert!(after.session.sound_step().is_ok());
             }
             Err(_) => assert_eq!((after.session, after.store, after.reply), (vector.session(), vector.store(), reply)),
         }
