@@ -21,6 +21,9 @@ const ERASE_ALL: u32 = 0xFFFF;
 /// The USD sector bits when no sector is write-protected.
 const NO_SECTOR_PROTECTED: [u8; SECTOR_BITS_BYTES] = [0xFF; SECTOR_BITS_BYTES];
 
+/// The most bytes or indexes that one byte can count, sent as one less.
+const MOST: usize = 256;
+
 /// What an obeyed input did, and where the session goes.
 pub type Done = (Effect, Next);
 
@@ -52,15 +55,7 @@ pub fn in_a_region(address: u32) -> Result<(Memory, Edge), Refused> {
 /// What is told of X bytes of a memory, which now are these.
 fn span(memory: Memory, offset: usize, bytes: &[u8]) -> Span {
     let x = bytes.len();
-    let tests =
-        [(x == 256, Span::Most), (x == 1, Span::One), (offset + x == memory.region().bytes, Span::AtLast), (offset == 0, Span::AtFirst)];
-    Span::first(&tests, used(memory, bytes))
-}
-
-/// What is told of so many sectors of flash.
-fn sector_span(count: usize, most: usize, named: impl Fn(usize) -> bool, used: Span) -> Span {
-    let tests = [(count == most, Span::Most), (count == 1, Span::One), (named(SECTORS - 1), Span::AtLast), (named(0), Span::AtFirst)];
-    Span::first(&tests, used)
+    Span::of(x, MOST, offset + x == memory.region().bytes, offset == 0, used(memory, bytes))
 }
 
 /// Whether bytes of a memory are those of a fresh board; USD always has its access byte to show.
@@ -133,13 +128,13 @@ pub fn write(memories: &mut Memories, address: u32, data: &[u8], last: Last) -> 
 fn at_border(memories: &Memories, memory: Memory, offset: usize, x: usize) -> Option<Span> {
     let end = offset + x;
     let protected = |offset: usize| offset < FLASH.bytes && sector_is_protected(memories.usd, offset / SECTOR_BYTES);
-    let tests = [
-        (offset / SECTOR_BYTES < (end - 1) / SECTOR_BYTES, Span::Across),
-        (offset.is_multiple_of(SECTOR_BYTES) && protected(offset.wrapping_sub(1)), Span::BehindProtected),
-        (end.is_multiple_of(SECTOR_BYTES) && protected(end), Span::BeforeProtected),
-    ];
-    let first = tests.into_iter().find(|(holds, _)| memory == Memory::Flash && *holds);
-    first.map(|(_, span)| span)
+    match memory {
+        Memory::Sram | Memory::Usd => None,
+        Memory::Flash if offset / SECTOR_BYTES < (end - 1) / SECTOR_BYTES => Some(Span::Across),
+        Memory::Flash if offset.is_multiple_of(SECTOR_BYTES) && protected(offset.wrapping_sub(1)) => Some(Span::BehindProtected),
+        Memory::Flash if end.is_multiple_of(SECTOR_BYTES) && protected(end) => Some(Span::BeforeProtected),
+        Memory::Flash => None,
+    }
 }
 
 /// Erases the sectors named by two-byte numbers, high first, or refuses the whole list.
@@ -154,7 +149,7 @@ pub fn erase_list(memories: &mut Memories, list: &[u8], last: Last) -> Result<Do
         sector.fill(ERASED);
     }
     let named = |sector| sector_numbers(list).any(|named| named == sector);
-    Ok((Effect::ErasedList(sector_span(list.len() / 2, SECTORS, named, bytes)), Next::Idle))
+    Ok((Effect::ErasedList(Span::of(list.len() / 2, SECTORS, named(SECTORS - 1), named(0), bytes)), Next::Idle))
 }
 
 /// Refuses if one of these numbers is over 31.
@@ -193,7 +188,7 @@ pub fn protect_only(memories: &mut Memories, indexes: &[u8], last: Last) -> Resu
     }
     let named = |sector| sectors.clone().any(|named| named == sector);
     let earlier = (0..SECTORS).any(|sector| sector_is_protected(memories.usd, sector) && !named(sector));
-    let span = sector_span(indexes.len(), 256, named, fresh_if(!earlier));
+    let span = Span::of(indexes.len(), MOST, named(SECTORS - 1), named(0), fresh_if(!earlier));
     set_sector_bits(memories, bits);
     Ok((Effect::ProtectedSectors(span), Next::Reset))
 }
@@ -260,7 +255,6 @@ pub fn firmware_crc(memories: &Memories, address: u32, sectors: usize) -> Result
     let summed = &memories.flash[offset..offset + bytes];
     let (groups, rest) = summed.as_chunks();
     debug_assert!(rest.is_empty());
-    let summed_at = |sector| (first..first + sectors).contains(&sector);
-    let effect = Effect::Summed(sector_span(sectors, SECTORS, summed_at, used(Memory::Flash, summed)));
+    let effect = Effect::Summed(Span::of(sectors, SECTORS, first + sectors == SECTORS, first == 0, used(Memory::Flash, summed)));
     Ok((effect, crc32_mpeg2_of_words(groups)))
 }

@@ -157,8 +157,14 @@ impl Span {
     /// What can stand at the border of a sector.
     pub const AT_BORDERS: [Span; 3] = [Span::Across, Span::BehindProtected, Span::BeforeProtected];
 
-    /// The first that holds, or else whether bytes are used.
-    pub fn first(tests: &[(bool, Span)], used: Span) -> Span {
-        tests.iter().find(|(holds, _)| *holds).map_or(used, |(_, span)| *span)
+    /// What is told of so many, up to the most, that are fresh or used.
+    pub fn of(count: usize, most: usize, at_last: bool, at_first: bool, used: Span) -> Span {
+        match count {
+            _ if count == most => Span::Most,
+            1 => Span::One,
+            _ if at_last => Span::AtLast,
+            _ if at_first => Span::AtFirst,
+            _ => used,
+        }
     }
 }
