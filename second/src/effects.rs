@@ -168,7 +168,11 @@ fn sector_numbers(list: &[u8]) -> impl Iterator<Item = usize> + Clone + '_ {
 /// Erases all flash for the two selectors that mean it, unless a sector is write-protected.
 pub fn erase_special(memories: &mut Memories, selector: u32, last: Last) -> Result<Done, Refused> {
     let all_flash = selector == ERASE_ALL || selector == ERASE_BANK_1;
-    let miss = if selector + 1 == ERASE_BANK_1 { Miss::Before } else { Miss::by_high_byte(selector & ERASE_ALL >= ERASE_BANK_1) };
+    let miss = match selector {
+        _ if none_is_protected(memories.usd, 0..SECTORS).is_err() => Miss::Far,
+        _ if selector == ERASE_BANK_1 - 1 => Miss::Before,
+        _ => Miss::by_high_byte(selector & ERASE_ALL >= ERASE_BANK_1),
+    };
     require(all_flash, Refused::SpecialErase(miss))?;
     none_is_protected(memories.usd, 0..SECTORS)?;
     last?;
