@@ -1,3 +1,3 @@
 pub mod Zeros
 pub mod Hearing
-pub mod Parts
+pub mod Pieces

@@ -1,8 +1,11 @@
 -- What is so between two reads, and what some text that was read has left.
 use Prim.Native.Nat.{ℕ, _+_, _*_, _≤_}
 use mathlib.Core.Path.{_≡_}
-use mathlib.Core.List.{List, [], _∷_, _++_}
+use mathlib.Core.List.{List, [], _∷_}
+use lib.Dec.{leb}
 use lib.ListN.{length}
+use Rattle.words.specs.Choice.{if_then_else_}
+use Rattle.words.specs.Lists.{cut}
 use Rattle.words.specs.Over.{put}
 use Rattle.memories.specs.Memories.{Memories}
 use Rattle.desk_answers.specs.Answers.{deskRoom}
@@ -30,22 +33,26 @@ pub record Ready (d : Desk) (line out : List ℕ) : Type 0 where
   pub written : d .end ≡ 0
   pub answers : outCharacters ≤ length out
 
--- texts one behind another
-abbrev pub joined : List (List ℕ) → List ℕ
-joined [] = []
-joined (t ∷ ts) = t ++ joined ts
+-- where answers that need so much at most are put: behind those that end here, or where the room is too little for both, at the front
+abbrev pub placeFor : ℕ → ℕ → ℕ → ℕ
+placeFor end need room = if leb (end + need) room then end else 0
 
--- the room for answers after texts were heard: what is to be printed of each stands at its front, and is written before the next is heard
-abbrev pub roomAfter : List (List ℕ) → D.Desk → List ℕ → List ℕ
-roomAfter [] d out = out
-roomAfter (t ∷ ts) d out = roomAfter ts (hears t d .state) (put out 0 (hears t d .text))
+-- where the answers to a piece are put
+abbrev pub placeOf : List ℕ → D.Desk → ℕ → List ℕ → ℕ
+placeOf piece d end out = placeFor end (deskRoom * (length (d .line) + length piece)) (length out)
 
--- a text was taken in: the desk is then as the paper says of it, and what is to be printed was written, the text being cut where it was
+-- the room for answers after pieces were heard one by one, from where the answers before them end
+abbrev pub roomAfter : List (List ℕ) → D.Desk → ℕ → List ℕ → List ℕ
+roomAfter [] d end out = out
+roomAfter (piece ∷ pieces) d end out =
+    let told = hears piece d in
+    let at = placeOf piece d end out in
+    roomAfter pieces (told .state) (at + length (told .text)) (put out at (told .text))
+
+-- a text was taken in: the desk is then as the paper says of it, and the room for answers is what the pieces of the text make of it
 pub record TakesIn (text : List ℕ) (before : D.Desk) (lent : List ℕ) (after : D.Desk) (left : List ℕ) : Type 0 where
-  pub parts : List (List ℕ)
-  pub whole : joined parts ≡ text
   pub desk : after ≡ hears text before .state
-  pub told : left ≡ roomAfter parts before lent
+  pub told : left ≡ roomAfter (cut pieceCharacters text) before 0 lent
 
 -- a read has brought some text, which was taken in
 pub record Turns (before : D.Desk) (lent : List ℕ) (after : D.Desk) (left : List ℕ) : Type 0 where

@@ -1,13 +1,12 @@
 // Reads a host's lines and writes the answers, over file descriptors: what is read and written is not proved, what is done with it is.
 ghost use mathlib.Core.Path.{_≡_};
-ghost use mathlib.Core.Logic.{_⊎_};
 ghost use Prim.Native.Nat.{_+_, _^_, _≤_, _<_};
 ghost use lib.ListN.{length};
 ghost use Rattle.memories.specs.Lent.{held, were, are};
 ghost use Rattle.memories.specs.Memories.{freshMemories};
 ghost use Rattle.desk_answers.specs.Desk.{keptCharacters};
 ghost use Rattle.desk_hearing.specs.Promise.{deskOf};
-ghost use Rattle.desk_loop.specs.Turns.{readCharacters, outCharacters, Ready, TakesIn, Turns, LeftBy};
+ghost use Rattle.desk_loop.specs.Turns.{readCharacters, outCharacters, Ready, placeFor, TakesIn, Turns, LeftBy};
 use board::Board;
 use boot::Session;
 use desk_hearing::Desk;
@@ -83,7 +82,7 @@ fn write_on(going: bool, to: i32, text: &[u8]) -> bool {
 fn make_room(end: usize, need: usize, going: bool, to: i32, out: &[u8]) -> Place
     requires { ⌜ end ≤ length (now out) ⌝ }
     requires { ⌜ need ≤ length (now out) ⌝ }
-    ensures place { λ r. ⌜ ((r .at ≡ end) ⊎ (r .at ≡ 0)) ⌝ }
+    ensures place { λ r. ⌜ r .at ≡ placeFor end need (length (now (out .entry))) ⌝ }
     ensures fits { λ r. ⌜ r .at + need ≤ length (now (out .entry)) ⌝ }
 {
     if need <= out.len() - end {
@@ -122,13 +121,13 @@ fn take_in(
     let mut going = true;
     let mut i = 0;
     while i < n {
-        let end = words::least(n, i + PIECE_CHARACTERS);
-        let need = can::ROOM * (here.kept + (end - i));
+        let next = words::least(n - i, PIECE_CHARACTERS) + i;
+        let need = can::ROOM * (here.kept + (next - i));
         let place = make_room(here.end, need, going, to, out);
         here.end = place.at;
         going = place.going;
-        here = hear(here, &text[i..end], line, flash, sram, usd, out);
-        i = end;
+        here = hear(here, &text[i..next], line, flash, sram, usd, out);
+        i = next;
     }
     let end = here.end;
     here.end = 0;

@@ -1,8 +1,10 @@
 -- By whether there is room behind the answers.
 use borrow.Author.Needs.{needs}
+use borrow.Author.Tests.{le-leb, lt-leb}
 use native.Mathlib.Omega.{arith}
 use mathlib.Core.Path.{refl, sym}
-use mathlib.Core.Logic.{inl, inr}
+use Prim.Native.Nat.{_+_}
+use lib.ListN.{length}
 use lib.Seq.{length-take-le}
 use Rattle.desk_loop.proofs.make_room.Statement.{statement}
 use Rattle.desk_loop.proofs.make_room.Tie as tie
@@ -12,6 +14,16 @@ slice-aggregate-write-on c =
     let start = c .before .before .before in
     sym (length-take-le (start .args .end) (start .args .out .now) (start .pre .0))
 
+returns : tie.Need-returns
+returns c =
+    let args = c .before .before .args in
+    (rw (le-leb (args .end + args .need) (length (args .out .now)) (omega arith)) refl, omega arith)
+
+returns-2 : tie.Need-returns-2
+returns-2 c =
+    let args = c .before .before .before .before .args in
+    (rw (lt-leb (args .end + args .need) (length (args .out .now)) (omega arith)) refl, omega arith)
+
 pub make-room-spec : {M : Type 1} → statement M
 make-room-spec =
     tie.close
@@ -19,5 +31,5 @@ make-room-spec =
     (λ c. search needs)
     slice-aggregate-write-on
     (λ c κs. search needs)
-    (λ c. (inl refl, omega arith))
-    (λ c. (inr refl, omega arith)))
+    returns
+    returns-2)

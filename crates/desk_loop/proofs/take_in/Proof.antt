@@ -1,15 +1,15 @@
--- Before each piece what was heard is the text up to it, in parts of which all but the last are written; there is room for its answers.
+-- Before each piece, what is left of the text leads to what the whole text does; there is room for the answers to it.
 use borrow.Author.Needs.{needs}
 use native.Mathlib.Omega.{arith}
-use mathlib.Core.Path.{_≡_, refl, sym, ap, subst, _∙_}
-use mathlib.Core.List.{List, []}
-use Prim.Native.Nat.{ℕ, _+_, _-_, _≤_, _<_}
-use lib.ListN.{length, take, drop, length-drop}
+use mathlib.Core.Path.{_≡_, refl, sym, _∙_}
+use Prim.Native.Nat.{_+_, _-_, _≤_}
+use lib.ListN.{length, take, drop}
 use lib.Seq.{length-take-le, drop-length}
 use Rattle.memories.specs.Memories.{memories}
 use Rattle.desk_answers.specs.Desk.{keptCharacters}
 use Rattle.desk_hearing.specs.Promise.{deskOf}
-use Rattle.desk_loop.proofs.Parts.{Hearing, begins, room-made, heard-more, taken-in, cut}
+use Rattle.desk_loop.specs.Turns.{placeOf}
+use Rattle.desk_loop.proofs.Pieces.{Piece, piece-found, Leads, begins, heard-more, taken-in}
 use Rattle.desk_loop.proofs.take_in.Statement.{statement}
 use Rattle.desk_loop.proofs.take_in.Tie as tie
 
@@ -20,7 +20,7 @@ Inv-loop text to line₀ flash₀ sram₀ usd₀ out₀ n here₀ going₀ i₀ 
     × (here .kept ≤ keptCharacters)
     × (here .lines ≤ here₀ .lines + i)
     × (here .end ≤ length out)
-    × Hearing text (deskOf here₀ line₀ (memories flash₀ sram₀ usd₀)) out₀ (drop i text) (deskOf here line (memories flash sram usd)) (here .end) out
+    × Leads text (deskOf here₀ line₀ (memories flash₀ sram₀ usd₀)) out₀ (drop i text) (deskOf here line (memories flash sram usd)) (here .end) out
     × (length flash ≡ length flash₀)
     × (length sram ≡ length sram₀)
     × (length usd ≡ length usd₀)
@@ -39,20 +39,9 @@ turn c = c .before .before
 abbrev start : tie.At-loop Inv-loop μ-loop → tie.Start Inv-loop μ-loop
 start c = c .before .before .before .before .before .before .before
 
--- it lies within the text, is not empty, and is no longer than a piece may be
-piece : (c : tie.After-least Inv-loop μ-loop)
-    → (turn c .loop .i < c .least .result) × (c .least .result ≤ turn c .loop .i + 256)
-    × (c .least .result ≤ length (start (turn c) .args .text .now))
-piece c = (omega (arith, c .least .ensures), omega (arith, c .least .ensures), omega (arith, c .least .ensures))
-
--- so many characters it has
-long : (c : tie.After-least Inv-loop μ-loop)
-    → length (take (c .least .result - turn c .loop .i) (drop (turn c .loop .i) (start (turn c) .args .text .now)))
-    ≡ c .least .result - turn c .loop .i
-long c =
-    let t = start (turn c) .args .text .now in
-    length-take-le (c .least .result - turn c .loop .i) (drop (turn c .loop .i) t)
-    (omega (arith, length-drop (turn c .loop .i) t, piece c .2))
+-- it is the next one of the text
+piece : (c : tie.After-least Inv-loop μ-loop) → Piece (start (turn c) .args .text .now) (turn c .loop .i) (c .least .result + turn c .loop .i)
+piece c = piece-found (start (turn c) .args .text .now) (turn c .loop .i) (c .least .result) (c .least .ensures) (c .before .loop-test .taken)
 
 loop-holds : tie.Need-loop-holds Inv-loop μ-loop
 loop-holds c =
@@ -74,7 +63,7 @@ make-room-requires : tie.Need-make-room-requires Inv-loop μ-loop
 make-room-requires c κs =
     let least = c .before .before in
     let inv = turn least .loop .inv in
-    (inv .4, omega (arith, piece least .1, inv .2, inv .9, start (turn least) .pre .0 .answers))
+    (inv .4, omega (arith, piece least .full, inv .2, inv .9, start (turn least) .pre .0 .answers))
 
 hear-requires : tie.Need-hear-requires Inv-loop μ-loop
 hear-requires c κs =
@@ -85,8 +74,8 @@ hear-requires c κs =
       (
         inv .2,
         (
-          omega (arith, long least, piece least .2, inv .3, start (turn least) .pre .1),
-          omega (arith, long least, made .make-room .ensures .1),
+          omega (arith, piece least .long, piece least .within, inv .3, start (turn least) .pre .1),
+          omega (arith, piece least .long, made .make-room .ensures .1),
         ),
       ),
     )
@@ -94,7 +83,17 @@ hear-requires c κs =
 loop-less : tie.Need-loop-less Inv-loop μ-loop
 loop-less c =
     let after-hear = c .before .before .before .before .before .before .before .before .before .before in
-    omega (arith, piece (found (after-hear .before .before .before .before .before .before .before)) .0)
+    omega (arith, piece (found (after-hear .before .before .before .before .before .before .before)) .more)
+
+-- the place that was made is the one for its answers
+placed : (c : tie.After-make-room Inv-loop μ-loop) → let loop = turn (found c) .loop in
+    let next = found c .least .result + loop .i in
+    c .make-room .result .at
+    ≡ placeOf (take (next - loop .i) (drop (loop .i) (start (turn (found c)) .args .text .now)))
+    (deskOf (loop .here) (loop .line) (memories (loop .flash) (loop .sram) (loop .usd))) (loop .here .end) (loop .out)
+placed c =
+    let loop = turn (found c) .loop in
+    rw (piece (found c) .long, length-take-le (loop .here .kept) (loop .line) (omega (arith, loop .inv .1, loop .inv .2))) (c .make-room .ensures .0)
 
 loop-again : tie.Need-loop-again Inv-loop μ-loop
 loop-again c =
@@ -102,17 +101,15 @@ loop-again c =
     let made = after-hear .before .before .before .before .before .before .before in
     let least = found made in
     let loop = turn least .loop in
-    let t = start (turn least) .args .text .now in
+    let p = piece least in
     let k = after-hear .hear .kept in
     let e = after-hear .hear .ensures in (
-      piece least .2,
+      p .within,
       k .1 .1 .0 ∙ loop .inv .1,
       e .1 .1 .0,
-      omega (arith, e .1 .1 .1, long least, loop .inv .3, piece least .0),
+      omega (arith, e .1 .1 .1, p .long, loop .inv .3, p .more),
       omega (arith, e .1 .0, k .1 .1 .1 .1 .1 .1 .0),
-      heard-more (take (least .least .result - loop .i) (drop (loop .i) t)) (drop (least .least .result) t) _ _ _
-          (cut (loop .i) (least .least .result) t (omega (arith, piece least .0)))
-          (room-made (made .make-room .result .at) (made .make-room .ensures .0) (loop .inv .5)) (e .0),
+      heard-more _ _ (p .first) (p .whole) (e .0) (omega (arith, placed made)) (loop .inv .5),
       k .1 .1 .1 .0 ∙ loop .inv .6,
       k .1 .1 .1 .1 .0 ∙ loop .inv .7,
       k .1 .1 .1 .1 .1 .0 ∙ loop .inv .8,
@@ -144,13 +141,14 @@ take-in-spec =
     loop-holds
     (λ c. omega arith)
     (λ c κs. search needs)
-    (λ c. omega (arith, piece c .0))
-    (λ c. let least = c .before in omega (arith, piece least .1, turn least .loop .inv .2))
-    (λ c. let least = c .before in omega (arith, piece least .1, turn least .loop .inv .2))
+    (λ c. omega (arith, piece c .within))
+    (λ c. omega (arith, piece c .more))
+    (λ c. let least = c .before in omega (arith, piece least .full, turn least .loop .inv .2))
+    (λ c. let least = c .before in omega (arith, piece least .full, turn least .loop .inv .2))
     make-room-requires
-    (λ c. omega (arith, piece (found c) .0))
-    (λ c. omega (arith, piece (found c) .0))
-    (λ c. omega (arith, piece (found c) .2))
+    (λ c. omega (arith, piece (found c) .more))
+    (λ c. omega (arith, piece (found c) .more))
+    (λ c. omega (arith, piece (found c) .within))
     hear-requires
     loop-less
     loop-again

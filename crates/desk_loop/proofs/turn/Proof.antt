@@ -15,7 +15,7 @@ returns c =
       start .pre .0,
       (
         omega arith,
-        record { text = []; few = omega arith; heard = record { parts = []; whole = refl; desk = refl; told = refl } },
+        record { text = []; few = omega arith; heard = record { desk = refl; told = refl } },
       ),
     )
 
