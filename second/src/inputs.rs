@@ -2,12 +2,13 @@
 
 use crate::board::{ACCESS_BYTE, SECTOR_BITS_BYTES, SECTOR_BITS_FIRST, USD};
 use crate::can::{needed_dlc, running_id, CONNECT_ID};
-use crate::commands::{ACCESS_UNPROTECT, ERASE, FIRMWARE_CRC, JUMP, PROTECT, READ_MEMORY, SPEED, WRITE_MEMORY};
+use crate::commands::ACCESS_UNPROTECT;
 use crate::dice::Dice;
 use crate::edges;
 use crate::ends::ANOTHER;
 use crate::frame::FRAME_DATA_BYTES;
-use crate::session::{CanStep, Session, UartStep};
+use crate::session::{CanStep, Session, Step, UartStep};
+use crate::steps::{self, CommandRow, Row};
 use crate::uart::{xor, CONNECT_BYTE};
 
 /// What a host knows of a board beside its session.
@@ -40,45 +41,96 @@ impl Known {
     }
 }
 
+/// A part of what a host sends.
+#[derive(Clone, Copy, Debug)]
+pub enum Item {
+    Command,
+    Address,
+    /// A count X of bytes or sector indexes, less one.
+    Count,
+    /// A count of sectors, less one.
+    SectorCount,
+    /// An erase selector.
+    Selector,
+    /// X bytes to write.
+    Data,
+    /// X two-byte sector numbers.
+    Numbers,
+    /// X sector indexes.
+    Indexes,
+    Speed,
+    /// A byte that is free.
+    Byte,
+    /// Data of any length that are not used.
+    Any,
+}
+
+impl Item {
+    /// The bytes of the item, at an address and for X.
+    fn bytes(self, address: u32, x: usize, known: Known, dice: &mut Dice) -> Vec<u8> {
+        match self {
+            Item::Command => vec![known.command(false, dice) as u8],
+            Item::Address => known.address(dice).to_be_bytes().to_vec(),
+            Item::Count => vec![less_one(edges::count(address, dice)) as u8],
+            Item::SectorCount => less_one(edges::sector_count(address, dice)).to_be_bytes().to_vec(),
+            Item::Selector => edges::selector(dice).to_be_bytes().to_vec(),
+            Item::Data => data(address, x, dice),
+            Item::Numbers => edges::sectors(x, known.recent, dice).into_iter().flat_map(u16::to_be_bytes).collect(),
+            Item::Indexes => edges::sectors(x, known.recent, dice).into_iter().map(|sector| sector as u8).collect(),
+            Item::Speed => vec![edges::speed(dice)],
+            Item::Byte => vec![dice.byte()],
+            Item::Any => any_data(dice),
+        }
+    }
+}
+
+/// How what is sent at a step is checked.
+#[derive(Clone, Copy, Debug)]
+pub enum Check {
+    None,
+    /// By the complement of a command, in the row of each command.
+    Command,
+    /// By the complement of a byte.
+    Complement,
+    /// By the XOR of all items.
+    Xor,
+    /// By the XOR of X less one and all items.
+    Counted,
+    /// By the complement of the XOR of all items.
+    Inverse,
+    /// By the XOR of a special erase selector, which is the address.
+    Special,
+    /// By the ID and the DLC of a frame that is gathered.
+    Frame,
+}
+
+impl Check {
+    /// The byte behind the items, at an address and for X.
+    fn byte(self, address: u32, x: usize, items: &[u8]) -> Option<u8> {
+        match self {
+            Check::None | Check::Frame => None,
+            Check::Command | Check::Complement | Check::Inverse => Some(!xor(items)),
+            Check::Xor => Some(xor(items)),
+            Check::Counted => Some(xor(items) ^ less_one(x) as u8),
+            Check::Special => Some(xor(&address.to_be_bytes()[2..])),
+        }
+    }
+}
+
+/// A count as it is sent.
+fn less_one(count: usize) -> u16 {
+    (count - 1) as u16
+}
+
 /// The bytes that end a UART step, which may have taken some.
 pub fn bytes(step: UartStep, session: &Session, known: Known, dice: &mut Dice) -> Vec<u8> {
+    let Row(sends, check, ..) = steps::row(Step::Uart(step));
     let x = step.expects().count_of(session.expected);
-    let items = uart_items(step, session.address, x, known, dice);
+    let items = sends.iter().flat_map(|item| item.bytes(session.address, x, known, dice));
     let mut all = session.staged[..session.taken].to_vec();
-    all.extend(items.iter().skip(session.taken));
-    all.extend(check(step, session.address, x, &all));
+    all.extend(items.skip(session.taken));
+    all.extend(check.byte(session.address, x, &all));
     all.split_off(session.taken)
-}
-
-/// What a UART step expects before its check.
-fn uart_items(step: UartStep, address: u32, x: usize, known: Known, dice: &mut Dice) -> Vec<u8> {
-    match step {
-        UartStep::Idle => vec![known.command(false, dice) as u8],
-        UartStep::ReadAddress | UartStep::JumpAddress | UartStep::WriteAddress | UartStep::CrcAddress => {
-            known.address(dice).to_be_bytes().to_vec()
-        }
-        UartStep::ReadLength | UartStep::WriteLength | UartStep::ProtectLength => {
-            vec![less_one(edges::count(address, dice)) as u8]
-        }
-        UartStep::EraseSelector => edges::selector(dice).to_be_bytes().to_vec(),
-        UartStep::SpecialCheck => vec![],
-        UartStep::WriteData => data(address, x, dice),
-        UartStep::EraseList => numbers(x, known.recent, dice),
-        UartStep::ProtectList => indexes(x, known.recent, dice),
-        UartStep::CrcCount => less_one(edges::sector_count(address, dice)).to_be_bytes().to_vec(),
-    }
-}
-
-/// The check behind the items of a UART step, if it has one.
-fn check(step: UartStep, address: u32, x: usize, items: &[u8]) -> Option<u8> {
-    let sum = xor(items);
-    match step {
-        UartStep::Idle | UartStep::ReadLength | UartStep::CrcCount => Some(!sum),
-        UartStep::ReadAddress | UartStep::JumpAddress | UartStep::WriteAddress | UartStep::CrcAddress => Some(sum),
-        UartStep::WriteData | UartStep::EraseList | UartStep::ProtectList => Some(sum ^ less_one(x) as u8),
-        UartStep::SpecialCheck => Some(xor(&address.to_be_bytes()[2..])),
-        UartStep::WriteLength | UartStep::EraseSelector | UartStep::ProtectLength => None,
-    }
 }
 
 /// The ID and data of a frame that a CAN step takes next.
@@ -87,12 +139,9 @@ pub fn frame(step: CanStep, session: &Session, known: Known, dice: &mut Dice) ->
         let id = known.command(true, dice);
         return (id, command_data(id, known, dice));
     };
+    let Row(sends, ..) = steps::row(Step::Can(step));
     let x = step.expects().count_of(session.expected);
-    let items = match step {
-        CanStep::EraseList => numbers(x, known.recent, dice),
-        CanStep::ProtectList => indexes(x, known.recent, dice),
-        CanStep::Idle | CanStep::WriteData => data(session.address, x, dice),
-    };
+    let items: Vec<u8> = sends.iter().flat_map(|item| item.bytes(session.address, x, known, dice)).collect();
     let most = dice.one_of(&[FRAME_DATA_BYTES, FRAME_DATA_BYTES, FRAME_DATA_BYTES, 3]);
     let mut data: Vec<u8> = items.into_iter().skip(session.taken).take(most).collect();
     if step == CanStep::WriteData && dice.once_in(4) {
@@ -101,29 +150,19 @@ pub fn frame(step: CanStep, session: &Session, known: Known, dice: &mut Dice) ->
     (id, data)
 }
 
-/// The data of a command frame.
+/// The data of a command frame, for which an address and a count are chosen first.
 fn command_data(id: u16, known: Known, dice: &mut Dice) -> Vec<u8> {
     let address = known.address(dice);
     let count = less_one(edges::count(address, dice)) as u8;
-    let mut data = address.to_be_bytes().to_vec();
-    match id {
-        READ_MEMORY | WRITE_MEMORY => data.push(count),
-        JUMP => {}
-        ERASE => data = edges::selector(dice).to_be_bytes().to_vec(),
-        PROTECT => data = vec![count],
-        FIRMWARE_CRC => {
-            data.extend(less_one(edges::sector_count(address, dice)).to_be_bytes());
-        }
-        SPEED => data = vec![edges::speed(dice), dice.byte()],
-        _ => data = any_data(dice),
-    }
+    let bytes = |item: &Item| match item {
+        Item::Address => address.to_be_bytes().to_vec(),
+        Item::Count => vec![count],
+        other => other.bytes(address, 1, known, dice),
+    };
+    let CommandRow(sends, ..) = steps::command_row(id);
+    let data: Vec<u8> = sends.iter().flat_map(bytes).collect();
     debug_assert!(needed_dlc(id).is_none_or(|dlc| dlc == data.len()));
     data
-}
-
-/// A count as it is sent.
-fn less_one(count: usize) -> u16 {
-    (count - 1) as u16
 }
 
 /// Data to write; where they become USD, those that rules look at are of the table.
@@ -135,18 +174,6 @@ fn data(address: u32, x: usize, dice: &mut Dice) -> Vec<u8> {
         data[SECTOR_BITS_FIRST..][..SECTOR_BITS_BYTES].copy_from_slice(&bits);
     }
     data
-}
-
-/// Two-byte sector numbers.
-fn numbers(x: usize, recent: u32, dice: &mut Dice) -> Vec<u8> {
-    let sectors = edges::sectors(x, recent, dice);
-    sectors.iter().flat_map(|sector| sector.to_be_bytes()).collect()
-}
-
-/// One-byte sector indexes.
-fn indexes(x: usize, recent: u32, dice: &mut Dice) -> Vec<u8> {
-    let sectors = edges::sectors(x, recent, dice);
-    sectors.iter().map(|sector| *sector as u8).collect()
 }
 
 /// The byte that connects, or now and then another.

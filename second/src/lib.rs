@@ -28,6 +28,7 @@ mod effects;
 mod hex;
 mod inputs;
 mod reply;
+mod steps;
 mod uart;
 
 pub use calls::{take_can_frame, take_uart_byte, Cause, Outcome, ACCEPTED};

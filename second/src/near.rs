@@ -154,6 +154,9 @@ impl Span {
     /// What can be wherever they lie.
     pub const PLAIN: [Span; 6] = [Span::Most, Span::One, Span::AtLast, Span::AtFirst, Span::Fresh, Span::Used];
 
+    /// Whether they show what was done.
+    pub const USE: [Span; 2] = [Span::Fresh, Span::Used];
+
     /// What can stand at the border of a sector.
     pub const AT_BORDERS: [Span; 3] = [Span::Across, Span::BehindProtected, Span::BeforeProtected];
 

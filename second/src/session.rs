@@ -20,7 +20,7 @@ pub struct Expects {
 
 impl Expects {
     /// A step that always expects the same number.
-    const fn just(number: usize) -> Expects {
+    pub(crate) const fn just(number: usize) -> Expects {
         Expects { least: number, greatest: number, apart: 1 }
     }
 
@@ -43,6 +43,11 @@ impl Expects {
     /// The number that the step may expect for X, or for the X nearest to it.
     pub(crate) fn near(&self, x: usize) -> usize {
         self.for_count(x.min(self.count_of(self.greatest)))
+    }
+
+    /// Tells whether numbers between those that the step may expect are not allowed.
+    pub(crate) fn has_gaps(&self) -> bool {
+        self.apart > 1
     }
 
     /// The number that the step would expect for one X too many.

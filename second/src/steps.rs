@@ -1,0 +1,266 @@
+//! The table of all steps and commands: what a host sends at each, and how that can end.
+
+use crate::board::Memory;
+use crate::can::needed_dlc;
+use crate::commands::{
+    is_protected, ACCESS_PROTECT, ACCESS_UNPROTECT, CAN_LIST, ERASE, FIRMWARE_CRC, GET_COMMANDS, GET_DEVICE_ID, GET_VERSION, JUMP, PROTECT,
+    READ_MEMORY, RESET_DEVICE, SPEED, UART_LIST, UNPROTECT, WRITE_MEMORY,
+};
+use crate::ends::{Effect, End, ANOTHER};
+use crate::inputs::{Check, Item};
+use crate::near::{Edge, Miss, Outside, Span, Which};
+use crate::refused::Refused;
+use crate::session::Step::{Can, Uart};
+use crate::session::{CanStep, Expects, Step, UartStep};
+use Ends::{All, BeginsOutside, Begun, Did, Edges, Entered, EnteredIn, In, Leaves, Missed, Nack, NoSectors, Sectors, Spans};
+
+/// What a host sends at a step, the check behind it, how that can end, and how it can only in sessions that no talk reaches.
+#[derive(Clone, Copy, Debug)]
+pub struct Row(pub &'static [Item], pub Check, pub &'static [Ends], pub &'static [Ends]);
+
+/// What a host sends in the frame of a command, how that can end on CAN, and how the command can end on UART.
+#[derive(Clone, Copy, Debug)]
+pub struct CommandRow(pub &'static [Item], pub &'static [Ends], pub &'static [Ends]);
+
+/// The row of a step.
+pub fn row(step: Step) -> Row {
+    match step {
+        Step::None => Row(&[], Check::None, &[Did(Effect::Connected), Did(Effect::Unheard)], &[]),
+        Step::Running => Row(&[], Check::None, &[], &[]),
+        Uart(step) => uart_row(step),
+        Can(step) => can_row(step),
+    }
+}
+
+/// The row of a UART step.
+fn uart_row(step: UartStep) -> Row {
+    use Item::{Address, Count, Data, Indexes, Numbers, SectorCount, Selector};
+    match step {
+        UartStep::Idle => Row(&[Item::Command], Check::Command, &[], &[]),
+        UartStep::ReadAddress => Row(&[Address], Check::Xor, &[NO_REGION, EnteredIn(Uart(UartStep::ReadLength), &Memory::ALL)], &[]),
+        UartStep::JumpAddress => Row(&[Address], Check::Xor, &[JUMP_ENDS], &[]),
+        UartStep::WriteAddress => Row(&[Address], Check::Xor, &[NO_REGION, EnteredIn(Uart(UartStep::WriteLength), &Memory::ALL)], &[]),
+        UartStep::CrcAddress => Row(&[Address], Check::Xor, &[NO_SECTOR_START, Entered(Uart(UartStep::CrcCount))], &[]),
+        UartStep::ReadLength => Row(&[Count], Check::Complement, &[Leaves, READ], &[BEGINS_OUTSIDE]),
+        UartStep::WriteLength => Row(&[Count], Check::None, &[Entered(Uart(UartStep::WriteData))], &[]),
+        UartStep::WriteData => Row(&[Data], Check::Counted, &[UNWRITABLE, WROTE], &[BEGINS_OUTSIDE]),
+        UartStep::EraseSelector => {
+            Row(&[Selector], Check::None, &[NO_SELECTOR, Entered(Uart(UartStep::EraseList)), Entered(Uart(UartStep::SpecialCheck))], &[])
+        }
+        UartStep::SpecialCheck => Row(&[], Check::Special, &[SPECIAL_ERASE], &[Nack(Refused::SpecialErase(Miss::HighByte))]),
+        UartStep::EraseList => Row(&[Numbers], Check::Counted, &[ERASE_LIST], &[]),
+        UartStep::ProtectLength => Row(&[Count], Check::None, &[Entered(Uart(UartStep::ProtectList))], &[]),
+        UartStep::ProtectList => Row(&[Indexes], Check::Counted, &[PROTECT_LIST], &[]),
+        UartStep::CrcCount => Row(&[SectorCount], Check::Inverse, &[CRC_ENDS], &[NO_SECTOR_START]),
+    }
+}
+
+/// The row of a CAN step.
+fn can_row(step: CanStep) -> Row {
+    match step {
+        CanStep::Idle => Row(&[], Check::None, &[], &[]),
+        CanStep::WriteData => Row(&[Item::Data], Check::Frame, &[Did(Effect::WrotePadded), WROTE], &[BEGINS_OUTSIDE, UNWRITABLE]),
+        CanStep::EraseList => Row(&[Item::Numbers], Check::Frame, &[EXTRA_BYTES, ERASE_LIST], &[]),
+        CanStep::ProtectList => Row(&[Item::Indexes], Check::Frame, &[EXTRA_BYTES, PROTECT_LIST], &[]),
+    }
+}
+
+/// The row of a command of an idle board, or of `ANOTHER`.
+pub fn command_row(command: u16) -> CommandRow {
+    use CommandRow as Row;
+    use Item::{Address, Any, Byte, Count, SectorCount, Selector, Speed};
+    let both = |ends| Row(&[Any], ends, ends);
+    match command {
+        GET_COMMANDS | GET_VERSION | GET_DEVICE_ID => both(&[Did(Effect::Told)]),
+        SPEED => Row(&[Speed, Byte], &[Missed(Refused::Speed, &[Miss::Behind, Miss::Far]), Edges(Effect::ChangedSpeed)], &[]),
+        READ_MEMORY => Row(&[Address, Count], &[BEGINS_OUTSIDE, Leaves, READ], &[Begun(UartStep::ReadAddress)]),
+        JUMP => Row(&[Address], &[JUMP_ENDS], &[Begun(UartStep::JumpAddress)]),
+        WRITE_MEMORY => Row(&[Address, Count], &[BEGINS_OUTSIDE, UNWRITABLE, BEGUN_WRITE], &[Begun(UartStep::WriteAddress)]),
+        ERASE => Row(&[Selector], &[NO_SELECTOR, SPECIAL_ERASE, Entered(Can(CanStep::EraseList))], &[Begun(UartStep::EraseSelector)]),
+        PROTECT => Row(&[Count], &[Entered(Can(CanStep::ProtectList))], &[Begun(UartStep::ProtectLength)]),
+        FIRMWARE_CRC => Row(&[Address, SectorCount], &[NO_SECTOR_START, CRC_ENDS], &[Begun(UartStep::CrcAddress)]),
+        UNPROTECT => both(&[Spans(Effect::ReleasedSectors, &Span::USE)]),
+        ACCESS_PROTECT => both(&[Did(Effect::Locked)]),
+        ACCESS_UNPROTECT => both(&[Spans(Effect::Wiped, &Span::USE), Did(Effect::LeftOpen)]),
+        RESET_DEVICE => both(&[Did(Effect::Reset)]),
+        _ => Row(&[Any], &[Missed(Refused::Unknown, &[Miss::HighByte, Miss::Far])], &[Nack(Refused::Unknown(Miss::Far))]),
+    }
+}
+
+/// Ends that stand together: those of one rule or effect, however near its edge, or those of some.
+#[derive(Clone, Copy, Debug)]
+pub enum Ends {
+    All(&'static [Ends]),
+    Nack(Refused),
+    Missed(fn(Miss) -> Refused, &'static [Miss]),
+    /// Some sectors are refused, or some numbers that miss the sectors.
+    Sectors(&'static [Which]),
+    NoSectors(&'static [Miss]),
+    /// Bytes begin outside all memories, or leave the one that they begin in.
+    BeginsOutside(fn(Outside) -> Refused),
+    Leaves,
+    Did(Effect),
+    Edges(fn(Edge) -> Effect),
+    Spans(fn(Span) -> Effect, &'static [Span]),
+    In(Memory, fn(Memory, Span) -> Effect, &'static [Span]),
+    /// A UART command begins with a step.
+    Begun(UartStep),
+    /// A step is entered with a count, sector or selector, or with an address in these memories.
+    Entered(Step),
+    EnteredIn(Step, &'static [Memory]),
+}
+
+impl Ends {
+    /// Each of these ends.
+    fn each(self) -> Vec<End> {
+        match self {
+            All(ends) => ends.iter().flat_map(|ends| ends.each()).collect(),
+            Nack(rule) => vec![End::Nack(rule)],
+            Missed(rule, misses) => nacks(rule, misses),
+            Sectors(which) => nacks(Refused::ProtectedSector, which),
+            NoSectors(misses) => misses.iter().flat_map(|miss| nacks(|which| Refused::SectorNumber(which, *miss), &Which::ALL)).collect(),
+            BeginsOutside(rule) => {
+                let near = Memory::ALL.map(|memory| [Outside::Before(memory), Outside::Behind(memory)]);
+                nacks(rule, &[near.as_flattened(), &[Outside::Away]].concat())
+            }
+            Leaves => {
+                nacks(Refused::Range, Memory::ALL.map(|memory| [Outside::EndsBehind(memory), Outside::EndsFar(memory)]).as_flattened())
+            }
+            Did(effect) => vec![End::Did(effect)],
+            Edges(effect) => dids(effect, &Edge::ALL),
+            Spans(effect, spans) => dids(effect, spans),
+            In(memory, effect, spans) => dids(|span| effect(memory, span), spans),
+            Begun(step) => vec![End::Did(Effect::Entered(Uart(step), Edge::Least))],
+            Entered(step) => dids(|edge| Effect::Entered(step, edge), &Edge::ALL),
+            EnteredIn(step, memories) => {
+                memories.iter().flat_map(|memory| dids(|edge| Effect::EnteredAt(step, *memory, edge), &Edge::ALL)).collect()
+            }
+        }
+    }
+}
+
+/// The ends of a rule, however near its edge.
+fn nacks<T: Copy>(rule: impl Fn(T) -> Refused, near: &[T]) -> Vec<End> {
+    near.iter().map(|near| End::Nack(rule(*near))).collect()
+}
+
+/// The ends of an effect, however near an edge.
+fn dids<T: Copy>(effect: impl Fn(T) -> Effect, near: &[T]) -> Vec<End> {
+    near.iter().map(|near| End::Did(effect(*near))).collect()
+}
+
+/// Why an address, or bytes from there on, are refused that lie in no memory, or at which no sector starts.
+const NO_REGION: Ends = BeginsOutside(Refused::NoRegion);
+const BEGINS_OUTSIDE: Ends = BeginsOutside(Refused::Range);
+const NO_SECTOR_START: Ends = All(&[
+    BeginsOutside(Refused::SectorStart),
+    Nack(Refused::SectorStart(Outside::In(Memory::Flash))),
+    Nack(Refused::SectorStart(Outside::In(Memory::Sram))),
+    Nack(Refused::SectorStart(Outside::In(Memory::Usd))),
+]);
+
+/// Why a selector, or a list by its length, is refused.
+const NO_SELECTOR: Ends = Missed(Refused::Selector, &[Miss::Before, Miss::Behind, Miss::HighByte, Miss::Far]);
+const EXTRA_BYTES: Ends = Missed(Refused::ExtraBytes, &[Miss::Behind, Miss::Far]);
+
+/// Why a write is refused by its place and count.
+const UNWRITABLE: Ends = All(&[Leaves, Missed(Refused::UsdRule, &[Miss::Before, Miss::Behind, Miss::Far]), Sectors(&Which::ALL)]);
+
+/// What can be read; USD is never fresh and has no 256 bytes.
+const READ: Ends = All(&[
+    In(Memory::Flash, Effect::Read, &Span::PLAIN),
+    In(Memory::Sram, Effect::Read, &Span::PLAIN),
+    In(Memory::Usd, Effect::Read, &[Span::One, Span::AtLast, Span::AtFirst, Span::Used]),
+]);
+
+/// What can be written; USD only whole.
+const WROTE: Ends = All(&[
+    In(Memory::Flash, Effect::Wrote, &Span::PLAIN),
+    In(Memory::Flash, Effect::Wrote, &Span::AT_BORDERS),
+    In(Memory::Sram, Effect::Wrote, &Span::PLAIN),
+    In(Memory::Usd, Effect::Wrote, &[Span::AtLast]),
+]);
+
+/// How the data of a write can be waited for on CAN; in USD only from its first address on.
+const BEGUN_WRITE: Ends = All(&[
+    EnteredIn(Can(CanStep::WriteData), &[Memory::Flash, Memory::Sram]),
+    Did(Effect::EnteredAt(Can(CanStep::WriteData), Memory::Usd, Edge::Least)),
+]);
+
+/// How a jump can end.
+const JUMP_ENDS: Ends = All(&[
+    BeginsOutside(Refused::JumpAddress),
+    Nack(Refused::JumpAddress(Outside::In(Memory::Usd))),
+    Edges(|edge| Effect::Jumped(Memory::Flash, edge)),
+    Edges(|edge| Effect::Jumped(Memory::Sram, edge)),
+]);
+
+/// How a special erase can end in talks.
+const SPECIAL_ERASE: Ends = All(&[
+    Missed(Refused::SpecialErase, &[Miss::Before, Miss::Far]),
+    Sectors(&[Which::First, Which::Last, Which::Others]),
+    Spans(|span| Effect::ErasedAll(Edge::Least, span), &Span::USE),
+    Spans(|span| Effect::ErasedAll(Edge::Most, span), &Span::USE),
+]);
+
+/// How a list of sectors to erase or to protect, and a count of sectors, can end.
+const ERASE_LIST: Ends =
+    All(&[NoSectors(&[Miss::Behind, Miss::HighByte, Miss::Far]), Sectors(&Which::ALL), Spans(Effect::ErasedList, &Span::PLAIN)]);
+const PROTECT_LIST: Ends = All(&[NoSectors(&[Miss::Behind, Miss::Far]), Spans(Effect::ProtectedSectors, &Span::PLAIN)]);
+const CRC_ENDS: Ends =
+    All(&[Missed(Refused::SectorRange, &[Miss::Behind, Miss::HighByte, Miss::Far]), Spans(Effect::Summed, &Span::PLAIN)]);
+
+/// How an input that a step hears can end, each end with the command that it was to, if that is known.
+pub fn ends(step: Step) -> Vec<(Option<u16>, End)> {
+    let Row(_, check, ends, _) = row(step);
+    let commands = match step {
+        Uart(UartStep::Idle) => of_commands(&UART_LIST, uart_command),
+        Can(CanStep::Idle) => of_commands(&CAN_LIST, can_command),
+        _ => vec![],
+    };
+    let waits = step.expects() != Expects::just(1);
+    let ends = [checked(check, waits), All(ends).each()].concat();
+    ends.into_iter().map(|end| (None, end)).chain(commands).collect()
+}
+
+/// How an input at a step can end only in sessions that no talk reaches.
+pub fn ends_by_hand(step: Step) -> Vec<End> {
+    let Row(.., by_hand) = row(step);
+    All(by_hand).each()
+}
+
+/// The ends of each command of a list, whose first byte is the version, and of all other commands.
+fn of_commands(list: &[u8], ends: fn(u16) -> Vec<End>) -> Vec<(Option<u16>, End)> {
+    let commands = list[1..].iter().map(|byte| u16::from(*byte)).chain([ANOTHER]);
+    commands.flat_map(|command| ends(command).into_iter().map(move |end| (Some(command), end))).collect()
+}
+
+/// How a command and its complement can end on UART.
+fn uart_command(command: u16) -> Vec<End> {
+    let CommandRow(.., ends) = command_row(command);
+    [vec![End::Nack(Refused::Complement)], locked(command), All(ends).each()].concat()
+}
+
+/// How a command frame can end on CAN.
+fn can_command(command: u16) -> Vec<End> {
+    let CommandRow(_, ends, _) = command_row(command);
+    let misses: &[Miss] = if needed_dlc(command).is_some() { &[Miss::Before, Miss::Behind, Miss::Far] } else { &[] };
+    [locked(command), nacks(Refused::Dlc, misses), All(ends).each()].concat()
+}
+
+/// How a locked board alone ends a command.
+fn locked(command: u16) -> Vec<End> {
+    is_protected(command).then_some(End::Nack(Refused::Protected)).into_iter().collect()
+}
+
+/// How a check alone can end a step, and that the step waits for more, if it does.
+fn checked(check: Check, waits: bool) -> Vec<End> {
+    let (first, last): (&[Refused], &[Miss]) = match check {
+        Check::None | Check::Command => (&[], &[]),
+        Check::Complement => (&[Refused::Complement], &[]),
+        Check::Xor | Check::Counted | Check::Inverse | Check::Special => (&[Refused::Checksum], &[]),
+        Check::Frame => (&[Refused::DlcZero], &[Miss::HighByte, Miss::Far]),
+    };
+    let waits: &[Effect] = if waits { &[Effect::Waits] } else { &[] };
+    [nacks(|rule| rule, first), dids(|effect| effect, waits), nacks(Refused::OtherId, last)].concat()
+}
