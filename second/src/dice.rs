@@ -1,19 +1,5 @@
 //! Random choices that a seed determines.
 
-/// How random bytes follow each other.
-#[derive(Clone, Copy, Debug)]
-enum Pattern {
-    /// Each is any byte.
-    Random,
-    /// All are the same.
-    Same,
-    /// Each is one more than the last.
-    Counting,
-}
-
-/// The patterns, the common one more than once.
-const PATTERNS: [Pattern; 4] = [Pattern::Random, Pattern::Random, Pattern::Same, Pattern::Counting];
-
 /// A splitmix64 generator.
 #[derive(Clone, Debug)]
 pub struct Dice(u64);
@@ -68,11 +54,6 @@ impl Dice {
         self.number() as u8
     }
 
-    /// Any address.
-    pub fn address(&mut self) -> u32 {
-        self.number() as u32
-    }
-
     /// Any byte but this one: mostly a bit is wrong, else all of them, or whichever.
     pub fn wrong(&mut self, right: u8) -> u8 {
         let bit = 1 << self.below(u8::BITS as usize);
@@ -80,16 +61,13 @@ impl Dice {
         right ^ self.one_of(&[bit, bit, bit, u8::MAX, any])
     }
 
-    /// So many bytes of some pattern.
+    /// So many bytes: counting up from one, all the same, or mostly any.
     pub fn bytes(&mut self, count: usize) -> Vec<u8> {
         let first = self.byte();
-        match self.one_of(&PATTERNS) {
-            Pattern::Random => (0..count).map(|_| self.byte()).collect(),
-            Pattern::Same => vec![self.one_of(&[u8::MIN, u8::MAX, first]); count],
-            Pattern::Counting => {
-                let next = |index| first.wrapping_add(index as u8);
-                (0..count).map(next).collect()
-            }
+        match self.below(4) {
+            3 => (0..count).map(|index| first.wrapping_add(index as u8)).collect(),
+            2 => vec![self.one_of(&[u8::MIN, u8::MAX, first]); count],
+            _ => (0..count).map(|_| self.byte()).collect(),
         }
     }
 }

@@ -35,10 +35,10 @@ const LOCKED: [u8; 5] = [ACCESS_LOCKED, 0xFF, 0x5A, 0xA4, 0x25];
 const SECTOR_BITS: [u8; 8] = [0xFF, 0xFF, 0xFF, 0xFF, 0x00, 0xFE, 0x7F, 0xEF];
 
 /// Speeds, and what is none.
-const SPEEDS: [u8; 6] = [0, 1, 2, 3, 4, 0xFF];
+pub const SPEEDS: [u8; 6] = [0, 1, 2, 3, 4, 0xFF];
 
-/// Numbers no session should hold.
-const HUGE: [u64; 6] = [0, 1, 258, 1 << 32, 1 << 63, u64::MAX];
+/// Numbers no session should hold, most of them too great.
+pub const HUGE: [u64; 6] = [0, 1, 258, 1 << 32, 1 << 63, u64::MAX];
 
 /// Commands that have steps, and so more to reach; writes have most. Released sectors can be erased.
 const STEPPED: [u16; 8] = [READ_MEMORY, WRITE_MEMORY, WRITE_MEMORY, ERASE, ERASE, PROTECT, UNPROTECT, FIRMWARE_CRC];
@@ -46,7 +46,7 @@ const STEPPED: [u16; 8] = [READ_MEMORY, WRITE_MEMORY, WRITE_MEMORY, ERASE, ERASE
 /// An address near a border of a region or of a sector, now and then any.
 pub fn address(dice: &mut Dice) -> u32 {
     if dice.once_in(12) {
-        return dice.address();
+        return dice.number() as u32;
     }
     let (region, apart) = dice.one_of(&REGIONS);
     let borders = region.bytes / apart;
@@ -127,31 +127,11 @@ pub fn access(dice: &mut Dice) -> u8 {
     dice.one_of(&[ACCESS_OPEN, ACCESS_OPEN, locked])
 }
 
-/// One of USD bytes 8 to 11.
-fn sector_bits(dice: &mut Dice) -> u8 {
-    dice.one_of(&SECTOR_BITS)
-}
-
-/// A speed or none.
-pub fn speed(dice: &mut Dice) -> u8 {
-    dice.one_of(&SPEEDS)
-}
-
-/// A number that is mostly too great.
-pub fn huge(dice: &mut Dice) -> u64 {
-    dice.one_of(&HUGE)
-}
-
 /// USD bytes 8 to 11: no sector protected, one alone, two that lie side by side, or any of the table.
 pub fn all_sector_bits(address: u32, dice: &mut Dice) -> [u8; SECTOR_BITS_BYTES] {
     let [one, two] = [1, 3_u32].map(|bits| (!(bits << sector(address, dice))).to_le_bytes());
-    let any = [0; SECTOR_BITS_BYTES].map(|_| sector_bits(dice));
+    let any = [0; SECTOR_BITS_BYTES].map(|_| dice.one_of(&SECTOR_BITS));
     dice.one_of(&[[0xFF; SECTOR_BITS_BYTES], one, two, any])
-}
-
-/// A length near the right one, or far from it, up to the most.
-pub fn wrong_length(right: usize, most: usize, dice: &mut Dice) -> usize {
-    dice.one_of(&[0, 1, right - 1, right - 1, right + 1, most])
 }
 
 /// A command of a carrier, those with steps more often than others, or none at all.

@@ -58,9 +58,8 @@ pub enum Item {
     Numbers,
     /// X sector indexes.
     Indexes,
+    /// A speed, and a byte that is free.
     Speed,
-    /// A byte that is free.
-    Byte,
     /// Data of any length that are not used.
     Any,
 }
@@ -77,8 +76,7 @@ impl Item {
             Item::Data => data(address, x, dice),
             Item::Numbers => edges::sectors(x, known.recent, dice).into_iter().flat_map(u16::to_be_bytes).collect(),
             Item::Indexes => edges::sectors(x, known.recent, dice).into_iter().map(|sector| sector as u8).collect(),
-            Item::Speed => vec![edges::speed(dice)],
-            Item::Byte => vec![dice.byte()],
+            Item::Speed => vec![dice.one_of(&edges::SPEEDS), dice.byte()],
             Item::Any => any_data(dice),
         }
     }

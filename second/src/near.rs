@@ -75,17 +75,12 @@ impl Which {
 
     /// Which ones are refused, if any is.
     pub fn refused(each: impl Iterator<Item = bool>) -> Option<Which> {
-        let (mut count, mut first, mut last) = (0, false, false);
-        for (index, refused) in each.enumerate() {
-            count += usize::from(refused);
-            first |= refused && index == 0;
-            last = refused;
-        }
-        match (count, first, last) {
-            (0, ..) => None,
-            (1, true, true) => Some(Which::Only),
-            (1, true, false) => Some(Which::First),
-            (1, false, true) => Some(Which::Last),
+        let each: Vec<bool> = each.collect();
+        match each.iter().filter(|refused| **refused).count() {
+            0 => None,
+            1 if each.len() == 1 => Some(Which::Only),
+            1 if each[0] => Some(Which::First),
+            1 if each[each.len() - 1] => Some(Which::Last),
             _ => Some(Which::Others),
         }
     }

@@ -39,8 +39,8 @@ impl Met {
 
 /// A command of the list, whose first byte is the version, or `ANOTHER`.
 fn known(command: u16, list: &[u8]) -> u16 {
-    let is_it = |byte: &u8| u16::from(*byte) == command;
-    if list[1..].iter().any(is_it) {
+    let listed = list[1..].iter().any(|byte| u16::from(*byte) == command);
+    if listed {
         command
     } else {
         ANOTHER
@@ -50,17 +50,13 @@ fn known(command: u16, list: &[u8]) -> u16 {
 impl fmt::Display for Met {
     /// Writes what was given, where, to which command, and its end.
     fn fmt(&self, formatter: &mut fmt::Formatter) -> fmt::Result {
-        write!(formatter, "{:?} at ", self.given)?;
-        match self.at {
-            Some(step) => write!(formatter, "{step:?}")?,
-            None => write!(formatter, "no step")?,
-        }
-        match self.command {
-            Some(ANOTHER) => write!(formatter, ", another command")?,
-            Some(command) => write!(formatter, ", command 0x{command:02X}")?,
-            None => {}
-        }
-        write!(formatter, ": {:?}", self.end)
+        let at = self.at.map_or("no step".to_owned(), |step| format!("{step:?}"));
+        let command = match self.command {
+            Some(ANOTHER) => ", another command".to_owned(),
+            Some(command) => format!(", command 0x{command:02X}"),
+            None => String::new(),
+        };
+        write!(formatter, "{:?} at {at}{command}: {:?}", self.given, self.end)
     }
 }
 
@@ -77,6 +73,13 @@ impl Reached {
         Reached { table: kind.table().into_iter().map(|met| (met, 0)).collect(), outside: BTreeMap::new() }
     }
 
+    /// What inputs of a kind reached that met these.
+    pub fn by(kind: Kind, met: impl Iterator<Item = Met>) -> Reached {
+        let mut reached = Reached::nothing(kind);
+        met.for_each(|met| reached.count(&[met]));
+        reached
+    }
+
     /// Counts what was met.
     pub fn count(&mut self, met: &[Met]) {
         for met in met {
@@ -85,22 +88,28 @@ impl Reached {
         }
     }
 
-    /// How rarely the rarest of these was met, if not often enough.
-    pub fn rarest(&self, met: &[Met]) -> usize {
-        let times = met.iter().filter_map(|met| self.table.get(met));
-        times.min().map_or(ENOUGH, |times| ENOUGH.min(*times))
+    /// Takes the one of some that meets what was met most rarely, if not often enough, and counts what it meets.
+    pub fn take_rarest<T>(&mut self, tried: impl Iterator<Item = (Vec<Met>, T)>) -> Option<T> {
+        let times = |met: &Met| self.table.get(met).copied();
+        let rarest = |met: &[Met]| met.iter().filter_map(times).min().map_or(ENOUGH, |times| times.min(ENOUGH));
+        let (met, taken) = tried.min_by_key(|(met, _)| rarest(met))?;
+        self.count(&met);
+        Some(taken)
     }
 
     /// The pairs that were not met often enough.
     pub fn wanted(&self) -> Vec<Met> {
-        let rare = self.table.iter().filter(|(_, times)| **times < ENOUGH);
-        rare.map(|(met, _)| *met).collect()
+        self.under(ENOUGH).collect()
     }
 
     /// The pairs that can be reached and were not.
     pub fn missing(&self) -> Vec<String> {
-        let missing = self.table.iter().filter(|(_, times)| **times == 0);
-        missing.map(|(met, _)| met.to_string()).collect()
+        self.under(1).map(|met| met.to_string()).collect()
+    }
+
+    /// The pairs that were met fewer times.
+    fn under(&self, times: usize) -> impl Iterator<Item = Met> + '_ {
+        self.table.iter().filter(move |(_, met)| **met < times).map(|(met, _)| *met)
     }
 
     /// Tells whether nothing was met outside the table and, where all is to be covered, nothing is missing.

@@ -38,8 +38,8 @@ impl Board {
         let address = self.session.address;
         self.recent = if address > 0 { address } else { self.recent };
         match Line::read(text, &mut space) {
-            Some(Line::Uart(bytes)) => bytes.iter().map(|byte| self.byte(*byte)).collect(),
-            Some(Line::Can(id, data)) => vec![self.frame(id, data)],
+            Some(Line::Uart(bytes)) => bytes.iter().map(|byte| self.call(Given::Byte, u16::from(*byte), &[])).collect(),
+            Some(Line::Can(id, data)) => vec![self.call(Given::Frame, id, &frame_bytes(id, data))],
             Some(Line::PowerOn) => {
                 let met = vec![self.no_call(Given::Power, Effect::PoweredOn)];
                 self.session = Session::power_on();
@@ -49,21 +49,15 @@ impl Board {
         }
     }
 
-    /// Takes a byte.
-    fn byte(&mut self, byte: u8) -> Met {
+    /// Takes a byte, or the frame with an ID.
+    fn call(&mut self, given: Given, first: u16, frame: &[u8]) -> Met {
         let before = self.session;
-        let reply = &mut [0; CAN_REPLY_BYTES];
-        let called = uart_byte_in_place(&mut self.session, byte, &mut self.store.lend(), reply);
-        Met::call(&before, Given::Byte, u16::from(byte), &called)
-    }
-
-    /// Takes a frame.
-    fn frame(&mut self, id: u16, data: &[u8]) -> Met {
-        let before = self.session;
-        let frame = frame_bytes(id, data);
-        let reply = &mut [0; CAN_REPLY_BYTES];
-        let called = can_frame_in_place(&mut self.session, &frame, &mut self.store.lend(), reply);
-        Met::call(&before, Given::Frame, id, &called)
+        let (memories, reply) = (&mut self.store.lend(), &mut [0; CAN_REPLY_BYTES]);
+        let called = match given {
+            Given::Frame => can_frame_in_place(&mut self.session, frame, memories, reply),
+            _ => uart_byte_in_place(&mut self.session, first as u8, memories, reply),
+        };
+        Met::call(&before, given, first, &called)
     }
 
     /// What is met by what is no call.
@@ -81,8 +75,8 @@ struct Host {
 }
 
 impl Host {
-    /// Lines from where a board is to where no command is under way, or to a break on the way there.
-    fn talk(&mut self, mut board: Board) -> Talk {
+    /// Lines from where a board is to where no command is under way, or to a break on the way there, and what they met.
+    fn talk(&mut self, mut board: Board) -> (Vec<Met>, (Vec<Vec<u8>>, Board)) {
         let mut lines = Vec::new();
         let mut met = Vec::new();
         loop {
@@ -91,7 +85,7 @@ impl Host {
             lines.push(line);
             let between = board.session.is_between_commands() && self.dice.coin();
             if between || self.dice.once_in(5 + board.session.left()) {
-                return Talk { lines, met, board };
+                return (met, (lines, board));
             }
         }
     }
@@ -181,14 +175,6 @@ impl Host {
     }
 }
 
-/// Lines, what they met, and the board that they led to.
-#[derive(Clone, Debug)]
-struct Talk {
-    lines: Vec<Vec<u8>>,
-    met: Vec<Met>,
-    board: Board,
-}
-
 /// A walk along a board, and the lines that led it there.
 #[derive(Clone, Debug)]
 pub struct Walk {
@@ -202,14 +188,8 @@ pub struct Walk {
 impl Walk {
     /// A walk that begins with the fresh board.
     pub fn seeded(kind: Kind, seed: u64) -> Walk {
-        let dice = Dice::seeded(seed);
-        Walk {
-            board: Board::fresh(),
-            host: Host { kind, dice, wanted: None },
-            reached: Reached::nothing(kind),
-            lines: Vec::new(),
-            open: Vec::new(),
-        }
+        let host = Host { kind, dice: Dice::seeded(seed), wanted: None };
+        Walk { board: Board::fresh(), host, reached: Reached::nothing(kind), lines: Vec::new(), open: Vec::new() }
     }
 
     /// Goes on by the talk, of some that are tried, that meets what was met most rarely.
@@ -221,10 +201,9 @@ impl Walk {
             self.host.wanted = if natural { None } else { self.host.dice.one_of(&rare).to_command() };
             self.host.talk(self.board.clone())
         });
-        if let Some(talk) = tried.min_by_key(|talk| self.reached.rarest(&talk.met)) {
-            self.reached.count(&talk.met);
-            self.board = talk.board;
-            talk.lines.into_iter().for_each(|line| self.write(line));
+        if let Some((lines, board)) = self.reached.take_rarest(tried) {
+            self.board = board;
+            lines.into_iter().for_each(|line| self.write(line));
         }
     }
 
@@ -281,9 +260,5 @@ pub fn random(kind: Kind, seed: u64, count: usize) -> Vec<Vec<u8>> {
 /// What the lines of a script reach, heard by a fresh board.
 pub fn reached<'l>(kind: Kind, lines: impl Iterator<Item = &'l [u8]>) -> Reached {
     let mut board = Board::fresh();
-    let mut reached = Reached::nothing(kind);
-    for line in lines {
-        reached.count(&board.hear(line));
-    }
-    reached
+    Reached::by(kind, lines.flat_map(|line| board.hear(line)))
 }

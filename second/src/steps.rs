@@ -68,11 +68,11 @@ fn can_row(step: CanStep) -> Row {
 /// The row of a command of an idle board, or of `ANOTHER`.
 pub fn command_row(command: u16) -> CommandRow {
     use CommandRow as Row;
-    use Item::{Address, Any, Byte, Count, SectorCount, Selector, Speed};
+    use Item::{Address, Any, Count, SectorCount, Selector, Speed};
     let both = |ends| Row(&[Any], ends, ends);
     match command {
         GET_COMMANDS | GET_VERSION | GET_DEVICE_ID => both(&[Did(Effect::Told)]),
-        SPEED => Row(&[Speed, Byte], &[Missed(Refused::Speed, &[Miss::Behind, Miss::Far]), Edges(Effect::ChangedSpeed)], &[]),
+        SPEED => Row(&[Speed], &[Missed(Refused::Speed, &[Miss::Behind, Miss::Far]), Edges(Effect::ChangedSpeed)], &[]),
         READ_MEMORY => Row(&[Address, Count], &[BEGINS_OUTSIDE, Leaves, READ], &[Begun(UartStep::ReadAddress)]),
         JUMP => Row(&[Address], &[JUMP_ENDS], &[Begun(UartStep::JumpAddress)]),
         WRITE_MEMORY => Row(&[Address, Count], &[BEGINS_OUTSIDE, UNWRITABLE, BEGUN_WRITE], &[Begun(UartStep::WriteAddress)]),
@@ -213,54 +213,36 @@ const CRC_ENDS: Ends =
 /// How an input that a step hears can end, each end with the command that it was to, if that is known.
 pub fn ends(step: Step) -> Vec<(Option<u16>, End)> {
     let Row(_, check, ends, _) = row(step);
-    let commands = match step {
-        Uart(UartStep::Idle) => of_commands(&UART_LIST, uart_command),
-        Can(CanStep::Idle) => of_commands(&CAN_LIST, can_command),
-        _ => vec![],
+    let (first, last): (&[Ends], &[Ends]) = match check {
+        Check::None | Check::Command => (&[], &[]),
+        Check::Complement => (&[Nack(Refused::Complement)], &[]),
+        Check::Xor | Check::Counted | Check::Inverse | Check::Special => (&[Nack(Refused::Checksum)], &[]),
+        Check::Frame => (&[Nack(Refused::DlcZero)], &[Missed(Refused::OtherId, &[Miss::HighByte, Miss::Far])]),
     };
-    let waits = step.expects() != Expects::just(1);
-    let ends = [checked(check, waits), All(ends).each()].concat();
-    ends.into_iter().map(|end| (None, end)).chain(commands).collect()
+    let waits: &[Ends] = if step.expects() == Expects::just(1) { &[] } else { &[Did(Effect::Waits)] };
+    let of_step = [first, waits, last, ends].map(|ends| All(ends).each()).concat();
+    let list: &[u8] = match step {
+        Uart(UartStep::Idle) => &UART_LIST[1..],
+        Can(CanStep::Idle) => &CAN_LIST[1..],
+        _ => &[],
+    };
+    let commands = list.iter().map(|byte| u16::from(*byte)).chain((!list.is_empty()).then_some(ANOTHER));
+    let of_commands = commands.flat_map(|command| of_command(command, step).into_iter().map(move |end| (Some(command), end)));
+    of_step.into_iter().map(|end| (None, end)).chain(of_commands).collect()
+}
+
+/// How a command can end at an idle step: by its form, by protection, or as its row says.
+fn of_command(command: u16, idle: Step) -> Vec<End> {
+    let CommandRow(_, can, uart) = command_row(command);
+    let protected: &[Ends] = if is_protected(command) { &[Nack(Refused::Protected)] } else { &[] };
+    let dlc: &[Ends] = if needed_dlc(command).is_some() { &[Missed(Refused::Dlc, &[Miss::Before, Miss::Behind, Miss::Far])] } else { &[] };
+    let on_uart = idle == Uart(UartStep::Idle);
+    let parts = if on_uart { [&[Nack(Refused::Complement)], protected, uart] } else { [protected, dlc, can] };
+    parts.map(|ends| All(ends).each()).concat()
 }
 
 /// How an input at a step can end only in sessions that no talk reaches.
 pub fn ends_by_hand(step: Step) -> Vec<End> {
     let Row(.., by_hand) = row(step);
     All(by_hand).each()
-}
-
-/// The ends of each command of a list, whose first byte is the version, and of all other commands.
-fn of_commands(list: &[u8], ends: fn(u16) -> Vec<End>) -> Vec<(Option<u16>, End)> {
-    let commands = list[1..].iter().map(|byte| u16::from(*byte)).chain([ANOTHER]);
-    commands.flat_map(|command| ends(command).into_iter().map(move |end| (Some(command), end))).collect()
-}
-
-/// How a command and its complement can end on UART.
-fn uart_command(command: u16) -> Vec<End> {
-    let CommandRow(.., ends) = command_row(command);
-    [vec![End::Nack(Refused::Complement)], locked(command), All(ends).each()].concat()
-}
-
-/// How a command frame can end on CAN.
-fn can_command(command: u16) -> Vec<End> {
-    let CommandRow(_, ends, _) = command_row(command);
-    let misses: &[Miss] = if needed_dlc(command).is_some() { &[Miss::Before, Miss::Behind, Miss::Far] } else { &[] };
-    [locked(command), nacks(Refused::Dlc, misses), All(ends).each()].concat()
-}
-
-/// How a locked board alone ends a command.
-fn locked(command: u16) -> Vec<End> {
-    is_protected(command).then_some(End::Nack(Refused::Protected)).into_iter().collect()
-}
-
-/// How a check alone can end a step, and that the step waits for more, if it does.
-fn checked(check: Check, waits: bool) -> Vec<End> {
-    let (first, last): (&[Refused], &[Miss]) = match check {
-        Check::None | Check::Command => (&[], &[]),
-        Check::Complement => (&[Refused::Complement], &[]),
-        Check::Xor | Check::Counted | Check::Inverse | Check::Special => (&[Refused::Checksum], &[]),
-        Check::Frame => (&[Refused::DlcZero], &[Miss::HighByte, Miss::Far]),
-    };
-    let waits: &[Effect] = if waits { &[Effect::Waits] } else { &[] };
-    [nacks(|rule| rule, first), dids(|effect| effect, waits), nacks(Refused::OtherId, last)].concat()
 }

@@ -66,7 +66,7 @@ pub struct After {
 
 impl Vector {
     /// The call of a byte on a session, of which only the first staged bytes are kept; all else is 0.
-    pub fn of(session: &Session, byte: u8) -> Vector {
+    pub fn of(session: &Session) -> Vector {
         let mut vector = Vector { given: Given::Byte, bytes: [0; VECTOR_BYTES] };
         vector.put(CARRIER, &[session.carrier, session.step]);
         vector.put(TAKEN, &(session.taken as u64).to_be_bytes());
@@ -74,7 +74,6 @@ impl Vector {
         vector.put(ADDRESS, &session.address.to_be_bytes());
         vector.put(SPEED, &[session.speed]);
         vector.put(STAGED, &session.staged[..STAGED_FIRST]);
-        vector.put(BYTE, &[byte]);
         vector
     }
 
@@ -151,24 +150,14 @@ impl Vector {
         vec![self.bytes[REPLY.0 + 4]; self.length(REPLY)]
     }
 
-    /// The bytes that are lent as a frame, or nothing if a UART byte is taken.
-    pub fn frame(&self) -> Option<&[u8]> {
-        let frame = &self.bytes[FRAME..][..usize::from(self.bytes[FRAME_LENGTH])];
-        (self.given == Given::Frame).then_some(frame)
-    }
-
-    /// The UART byte, 0 for a frame.
-    pub fn byte(&self) -> u8 {
-        self.bytes[BYTE]
-    }
-
     /// Makes the call on fresh copies.
     pub fn call(&self) -> After {
         let (mut session, mut store, mut reply) = (self.session(), self.store(), self.reply());
         let memories = &mut store.lend();
-        let called = match self.frame() {
-            None => uart_byte_in_place(&mut session, self.byte(), memories, &mut reply),
-            Some(frame) => can_frame_in_place(&mut session, frame, memories, &mut reply),
+        let frame = &self.bytes[FRAME..][..usize::from(self.bytes[FRAME_LENGTH])];
+        let called = match self.given {
+            Given::Frame => can_frame_in_place(&mut session, frame, memories, &mut reply),
+            _ => uart_byte_in_place(&mut session, self.bytes[BYTE], memories, &mut reply),
         };
         After { called, session, store, reply }
     }
@@ -202,15 +191,11 @@ impl Vector {
     /// Tells whether no buffer is over its most, and what the other input would use is 0.
     fn is_in_order(&self) -> bool {
         let length = usize::from(self.bytes[FRAME_LENGTH]);
-        let unused = match self.given {
-            Given::Frame => length.min(LONGEST_FRAME),
-            _ => 0,
-        };
-        [FLASH, SRAM, USD, REPLY].iter().all(|buffer| self.length(*buffer) <= buffer.1)
-            && self.bytes[FRAME + unused..].iter().all(|byte| *byte == 0)
+        let no_other = if self.given == Given::Frame { self.bytes[BYTE] == 0 } else { length == 0 };
+        no_other
             && length <= LONGEST_FRAME
-            && (self.given == Given::Frame || length == 0)
-            && (self.given == Given::Byte || self.byte() == 0)
+            && self.bytes[FRAME + length..].iter().all(|byte| *byte == 0)
+            && [FLASH, SRAM, USD, REPLY].iter().all(|buffer| self.length(*buffer) <= buffer.1)
     }
 
     /// The line of the answer to the vector, ended by LF.
@@ -223,8 +208,7 @@ impl Vector {
         let mut bytes = vec![number];
         bytes.extend((length as u64).to_be_bytes());
         bytes.extend(&reply[..length]);
-        let said = Vector::of(&session, 0);
-        bytes.extend(&said.bytes[CARRIER..STAGED_RULE]);
+        bytes.extend(&Vector::of(&session).bytes[CARRIER..STAGED_RULE]);
         for left in [&session.staged, &*store.flash, &store.sram, &store.usd, &reply] {
             bytes.extend(adler32(left).to_be_bytes());
         }

@@ -27,23 +27,14 @@ pub fn random(seed: u64, count: usize) -> Vec<Vector> {
     let next = |_| {
         let rare = reached.wanted();
         let (tries, wanted) = if rare.is_empty() { (1, &table) } else { (TRIES, &rare) };
-        let tried = (0..tries).map(|_| maker.vector(wanted)).map(|vector| (vector.met(), vector));
-        let rarest = tried.min_by_key(|(met, _)| reached.rarest(&[*met]));
-        rarest.map(|(met, vector)| {
-            reached.count(&[met]);
-            vector
-        })
+        reached.take_rarest((0..tries).map(|_| maker.vector(wanted)).map(|vector| (vec![vector.met()], vector)))
     };
     (0..count).filter_map(next).collect()
 }
 
 /// What vectors reach.
 pub fn reached(vectors: &[Vector]) -> Reached {
-    let mut reached = Reached::nothing(Kind::Calls);
-    for vector in vectors {
-        reached.count(&[vector.met()]);
-    }
-    reached
+    Reached::by(Kind::Calls, vectors.iter().map(Vector::met))
 }
 
 /// Makes vectors.
@@ -64,7 +55,7 @@ impl Maker {
         } else {
             self.session(wanted.at.unwrap_or(Step::None))
         };
-        let mut vector = Vector::of(&session, 0);
+        let mut vector = Vector::of(&session);
         self.lend_memories(&mut vector);
         self.lend_reply(&mut vector);
         self.input(&mut vector);
@@ -105,8 +96,9 @@ impl Maker {
         let all_fresh = dice.once_in(3);
         let memories = [(FLASH, board::FLASH, ERASED), (SRAM, board::SRAM, 0), (USD, board::USD, ERASED)];
         for (index, (memory, region, fresh)) in memories.into_iter().enumerate() {
-            let wrong_length = edges::wrong_length(region.bytes, memory.1, dice);
-            let length = if index == wrong { wrong_length } else { region.bytes };
+            let right = region.bytes;
+            let wrong_length = dice.one_of(&[0, 1, right - 1, right - 1, right + 1, memory.1]);
+            let length = if index == wrong { wrong_length } else { right };
             let any = [dice.byte(), dice.byte()];
             vector.put_buffer(memory, length, &if all_fresh { [fresh, 0] } else { any });
         }
@@ -169,7 +161,7 @@ impl Maker {
         let session = vector.session();
         let expected = session.expected as u64;
         let beyond = Step::named(session.carrier, session.step).map_or(0, |step| step.expects().beyond()) as u64;
-        let huge = edges::huge(dice);
+        let huge = dice.one_of(&edges::HUGE);
         match dice.below(8) {
             0 => vector.put(STEP, &[dice.one_of(&[1, 4, 14, 0xFF])]),
             1 => vector.put(CARRIER, &[dice.one_of(&[CARRIER_RUNNING + 1, 0x80, 0xFF])]),
