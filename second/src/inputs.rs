@@ -7,7 +7,7 @@ use crate::dice::Dice;
 use crate::edges;
 use crate::ends::ANOTHER;
 use crate::frame::FRAME_DATA_BYTES;
-use crate::session::{CanStep, Session, Step, UartStep};
+use crate::session::{CanStep, Session, Step};
 use crate::steps::{self, CommandRow, Row};
 use crate::uart::{xor, CONNECT_BYTE};
 
@@ -90,10 +90,8 @@ pub enum Check {
     Command,
     /// By the complement of a byte.
     Complement,
-    /// By the XOR of all items.
+    /// By the XOR of X less one and all items; an address has no X, which counts as 1.
     Xor,
-    /// By the XOR of X less one and all items.
-    Counted,
     /// By the complement of the XOR of all items.
     Inverse,
     /// By the XOR of a special erase selector, which is the address.
@@ -108,8 +106,7 @@ impl Check {
         match self {
             Check::None | Check::Frame => None,
             Check::Command | Check::Complement | Check::Inverse => Some(!xor(items)),
-            Check::Xor => Some(xor(items)),
-            Check::Counted => Some(xor(items) ^ less_one(x) as u8),
+            Check::Xor => Some(xor(items) ^ less_one(x) as u8),
             Check::Special => Some(xor(&address.to_be_bytes()[2..])),
         }
     }
@@ -120,32 +117,66 @@ fn less_one(count: usize) -> u16 {
     (count - 1) as u16
 }
 
-/// The bytes that end a UART step, which may have taken some.
-pub fn bytes(step: UartStep, session: &Session, known: Known, dice: &mut Dice) -> Vec<u8> {
-    let Row(sends, check, ..) = steps::row(Step::Uart(step));
-    let x = step.expects().count_of(session.expected);
-    let items = sends.iter().flat_map(|item| item.bytes(session.address, x, known, dice));
-    let mut all = session.staged[..session.taken].to_vec();
-    all.extend(items.skip(session.taken));
-    all.extend(check.byte(session.address, x, &all));
-    all.split_off(session.taken)
+/// What a host sends.
+#[derive(Clone, Debug)]
+pub enum Input {
+    Bytes(Vec<u8>),
+    /// An ID and the data of a frame.
+    Frame(u16, Vec<u8>),
 }
 
-/// The ID and data of a frame that a CAN step takes next.
-pub fn frame(step: CanStep, session: &Session, known: Known, dice: &mut Dice) -> (u16, Vec<u8>) {
-    let Some(id) = running_id(step) else {
-        let id = known.command(true, dice);
-        return (id, command_data(id, known, dice));
-    };
-    let Row(sends, ..) = steps::row(Step::Can(step));
-    let x = step.expects().count_of(session.expected);
-    let items: Vec<u8> = sends.iter().flat_map(|item| item.bytes(session.address, x, known, dice)).collect();
-    let most = dice.one_of(&[FRAME_DATA_BYTES, FRAME_DATA_BYTES, FRAME_DATA_BYTES, 3]);
-    let mut data: Vec<u8> = items.into_iter().skip(session.taken).take(most).collect();
-    if step == CanStep::WriteData && dice.once_in(4) {
-        data.resize(FRAME_DATA_BYTES, 0);
+impl Input {
+    /// The bytes that end a step, or the frame that a CAN step takes next; the step may have taken some.
+    pub fn fitting(step: Step, session: &Session, known: Known, dice: &mut Dice) -> Input {
+        let Row(sends, check, ..) = steps::row(step);
+        let (address, x) = (session.address, step.expects().count_of(session.expected));
+        let items: Vec<u8> = sends.iter().flat_map(|item| item.bytes(address, x, known, dice)).collect();
+        let left = items.into_iter().skip(session.taken);
+        let Step::Can(step) = step else {
+            let mut all = session.staged[..session.taken].to_vec();
+            all.extend(left);
+            all.extend(check.byte(address, x, &all));
+            return Input::Bytes(all.split_off(session.taken));
+        };
+        let Some(id) = running_id(step) else {
+            let id = known.command(true, dice);
+            return Input::Frame(id, command_data(id, known, dice));
+        };
+        let most = dice.one_of(&[FRAME_DATA_BYTES, FRAME_DATA_BYTES, FRAME_DATA_BYTES, 3]);
+        let mut data: Vec<u8> = left.take(most).collect();
+        if step == CanStep::WriteData && dice.once_in(4) {
+            data.resize(FRAME_DATA_BYTES, 0);
+        }
+        Input::Frame(id, data)
     }
-    (id, data)
+
+    /// The byte that connects, or now and then another.
+    pub fn connect_byte(dice: &mut Dice) -> Input {
+        let other = dice.byte();
+        Input::Bytes(vec![dice.one_of(&[CONNECT_BYTE, CONNECT_BYTE, CONNECT_BYTE, other])])
+    }
+
+    /// The frame that connects, now and then with another ID.
+    pub fn connect_frame(dice: &mut Dice) -> Input {
+        let other = other_id(CONNECT_ID, dice);
+        let id = dice.one_of(&[CONNECT_ID, CONNECT_ID, other, 0x800 | other]);
+        Input::Frame(id, any_data(dice))
+    }
+
+    /// The bytes, or the data of the frame.
+    pub fn data(&self) -> &[u8] {
+        match self {
+            Input::Bytes(data) | Input::Frame(_, data) => data,
+        }
+    }
+
+    /// Spoils one thing.
+    pub fn spoil(&mut self, dice: &mut Dice) {
+        match self {
+            Input::Bytes(bytes) => spoil_bytes(bytes, dice),
+            Input::Frame(id, data) => spoil_frame(id, data, dice),
+        }
+    }
 }
 
 /// The data of a command frame, for which an address and a count are chosen first.
@@ -174,19 +205,6 @@ fn data(address: u32, x: usize, dice: &mut Dice) -> Vec<u8> {
     data
 }
 
-/// The byte that connects, or now and then another.
-pub fn connect_byte(dice: &mut Dice) -> u8 {
-    let other = dice.byte();
-    dice.one_of(&[CONNECT_BYTE, CONNECT_BYTE, CONNECT_BYTE, other])
-}
-
-/// The frame that connects, now and then with another ID.
-pub fn connect_frame(dice: &mut Dice) -> (u16, Vec<u8>) {
-    let other = other_id(CONNECT_ID, dice);
-    let id = dice.one_of(&[CONNECT_ID, CONNECT_ID, other, 0x800 | other]);
-    (id, any_data(dice))
-}
-
 /// The data of a frame of any length.
 fn any_data(dice: &mut Dice) -> Vec<u8> {
     let length = dice.below(FRAME_DATA_BYTES + 1);
@@ -200,11 +218,12 @@ fn other_id(id: u16, dice: &mut Dice) -> u16 {
     dice.one_of(&[near, near, command, CONNECT_ID, 0x7FF, 0x800, 0x800 | id])
 }
 
-/// Flips a bit or all bits of a byte, or drops, inserts or repeats one, often the last.
-pub fn spoil_bytes(bytes: &mut Vec<u8>, dice: &mut Dice) {
+/// Flips a bit or all bits of a byte, or drops, inserts or repeats one, often the last; one at least stays.
+fn spoil_bytes(bytes: &mut Vec<u8>, dice: &mut Dice) {
     let any = dice.below(bytes.len());
     let place = dice.one_of(&[bytes.len() - 1, any]);
     match dice.below(6) {
+        0 if bytes.len() == 1 => bytes[0] = 0,
         0 => {
             bytes.remove(place);
         }

@@ -5,8 +5,8 @@ use crate::dice::Dice;
 use crate::effects::protection_is_on;
 use crate::ends::{Effect, End, Given, Kind, Met};
 use crate::frame::frame_bytes;
-use crate::hex::{print_byte, print_digit, print_fields};
-use crate::inputs::{self, Known};
+use crate::hex::print_fields;
+use crate::inputs::{Input, Known};
 use crate::line::{Line, LINE_BYTES};
 use crate::memories::Store;
 use crate::reached::Reached;
@@ -98,7 +98,7 @@ impl Host {
             (1..5, _) => self.no_line(),
             (5..8, Some(Step::Uart(_))) if self.kind == Kind::Mixed => self.stray(true),
             (5..8, Some(Step::Can(_))) => self.stray(false),
-            (_, Some(Step::Uart(_) | Step::Can(_))) => self.fitting(board, step),
+            (_, Some(step @ (Step::Uart(_) | Step::Can(_)))) => self.fitting(board, step),
             (8..30, Some(Step::Running)) => b"P".to_vec(),
             _ => {
                 let on_can = self.kind == Kind::Mixed && self.dice.coin();
@@ -108,45 +108,28 @@ impl Host {
     }
 
     /// A line that continues what a board is at, now and then spoilt.
-    fn fitting(&mut self, board: &Board, step: Option<Step>) -> Vec<u8> {
+    fn fitting(&mut self, board: &Board, step: Step) -> Vec<u8> {
         let dice = &mut self.dice;
-        let session = &board.session;
-        let spoilt = dice.once_in(11 + session.left() / 2);
+        let spoilt = dice.once_in(11 + board.session.left() / 2);
         let known = Known { locked: protection_is_on(&board.store.usd), recent: board.recent, wanted: self.wanted };
-        match step {
-            Some(Step::Can(step)) => {
-                let (mut id, mut data) = inputs::frame(step, session, known, dice);
-                if spoilt {
-                    inputs::spoil_frame(&mut id, &mut data, dice);
-                }
-                can_line(id, &data)
-            }
-            Some(Step::Uart(step)) => {
-                let mut bytes = inputs::bytes(step, session, known, dice);
-                if spoilt {
-                    inputs::spoil_bytes(&mut bytes, dice);
-                }
-                uart_line(if bytes.is_empty() { &[0] } else { &bytes })
-            }
-            _ => self.stray(false),
+        let mut input = Input::fitting(step, &board.session, known, dice);
+        if spoilt {
+            input.spoil(dice);
         }
+        line(&input)
     }
 
     /// A line on a carrier that would connect it, or nearly, wherever the board is.
     fn stray(&mut self, on_can: bool) -> Vec<u8> {
-        let (id, data) = inputs::connect_frame(&mut self.dice);
-        if on_can {
-            can_line(id, &data)
-        } else {
-            uart_line(&[inputs::connect_byte(&mut self.dice)])
-        }
+        let frame = Input::connect_frame(&mut self.dice);
+        line(&if on_can { frame } else { Input::connect_byte(&mut self.dice) })
     }
 
     /// A line that is no line: a right one, edited until it is none.
     fn no_line(&mut self) -> Vec<u8> {
         let mut text = match self.dice.below(3) {
             0 => b"P".to_vec(),
-            1 => uart_line(&self.dice.bytes(3)),
+            1 => line(&Input::Bytes(self.dice.bytes(3))),
             _ => self.stray(self.kind == Kind::Mixed),
         };
         while Line::read(&text, &mut [0; LINE_BYTES]).is_some() {
@@ -166,7 +149,7 @@ impl Host {
             }
             1 => text.iter_mut().skip(1).for_each(|character| character.make_ascii_lowercase()),
             2 => text.extend(b" FF".repeat(dice.one_of(&[1, 8, 9]))),
-            6 => *text = uart_line(&vec![character; LINE_BYTES + dice.below(3)]),
+            6 => *text = line(&Input::Bytes(vec![character; LINE_BYTES + dice.below(3)])),
             3 => text.truncate(place),
             4 => text.push(character),
             5 if place < text.len() => text[place] = character,
@@ -222,8 +205,8 @@ impl Walk {
             let most = self.open.len().min(LINE_BYTES);
             let some = dice.between(1, most);
             let rest = self.open.split_off(dice.one_of(&[most, most, some]));
-            let line = std::mem::replace(&mut self.open, rest);
-            self.lines.push(uart_line(&line));
+            let bytes = std::mem::replace(&mut self.open, rest);
+            self.lines.push(line(&Input::Bytes(bytes)));
         }
         if bytes.is_none() {
             self.lines.push(text);
@@ -231,19 +214,13 @@ impl Walk {
     }
 }
 
-/// The `U` line of bytes.
-fn uart_line(bytes: &[u8]) -> Vec<u8> {
-    let mut text = b"U".to_vec();
-    print_fields(bytes, &mut text);
-    text
-}
-
-/// The `C` line of a frame.
-fn can_line(id: u16, data: &[u8]) -> Vec<u8> {
-    let mut text = b"C ".to_vec();
-    print_digit((id >> 8) as u8, &mut text);
-    print_byte(id as u8, &mut text);
-    print_fields(data, &mut text);
+/// The `U` line of bytes or the `C` line of a frame.
+fn line(input: &Input) -> Vec<u8> {
+    let mut text = match input {
+        Input::Bytes(_) => b"U".to_vec(),
+        Input::Frame(id, _) => format!("C {id:03X}").into_bytes(),
+    };
+    print_fields(input.data(), &mut text);
     text
 }
 

@@ -43,14 +43,14 @@ fn uart_row(step: UartStep) -> Row {
         UartStep::CrcAddress => Row(&[Address], Check::Xor, &[NO_SECTOR_START, Entered(Uart(UartStep::CrcCount))], &[]),
         UartStep::ReadLength => Row(&[Count], Check::Complement, &[Leaves, READ], &[BEGINS_OUTSIDE]),
         UartStep::WriteLength => Row(&[Count], Check::None, &[Entered(Uart(UartStep::WriteData))], &[]),
-        UartStep::WriteData => Row(&[Data], Check::Counted, &[UNWRITABLE, WROTE], &[BEGINS_OUTSIDE]),
+        UartStep::WriteData => Row(&[Data], Check::Xor, &[UNWRITABLE, WROTE], &[BEGINS_OUTSIDE]),
         UartStep::EraseSelector => {
             Row(&[Selector], Check::None, &[NO_SELECTOR, Entered(Uart(UartStep::EraseList)), Entered(Uart(UartStep::SpecialCheck))], &[])
         }
         UartStep::SpecialCheck => Row(&[], Check::Special, &[SPECIAL_ERASE], &[Nack(Refused::SpecialErase(Miss::HighByte))]),
-        UartStep::EraseList => Row(&[Numbers], Check::Counted, &[ERASE_LIST], &[]),
+        UartStep::EraseList => Row(&[Numbers], Check::Xor, &[ERASE_LIST], &[]),
         UartStep::ProtectLength => Row(&[Count], Check::None, &[Entered(Uart(UartStep::ProtectList))], &[]),
-        UartStep::ProtectList => Row(&[Indexes], Check::Counted, &[PROTECT_LIST], &[]),
+        UartStep::ProtectList => Row(&[Indexes], Check::Xor, &[PROTECT_LIST], &[]),
         UartStep::CrcCount => Row(&[SectorCount], Check::Inverse, &[CRC_ENDS], &[NO_SECTOR_START]),
     }
 }
@@ -216,7 +216,7 @@ pub fn ends(step: Step) -> Vec<(Option<u16>, End)> {
     let (first, last): (&[Ends], &[Ends]) = match check {
         Check::None | Check::Command => (&[], &[]),
         Check::Complement => (&[Nack(Refused::Complement)], &[]),
-        Check::Xor | Check::Counted | Check::Inverse | Check::Special => (&[Nack(Refused::Checksum)], &[]),
+        Check::Xor | Check::Inverse | Check::Special => (&[Nack(Refused::Checksum)], &[]),
         Check::Frame => (&[Nack(Refused::DlcZero)], &[Missed(Refused::OtherId, &[Miss::HighByte, Miss::Far])]),
     };
     let waits: &[Ends] = if step.expects() == Expects::just(1) { &[] } else { &[Did(Effect::Waits)] };

@@ -6,7 +6,7 @@ use crate::dice::Dice;
 use crate::edges;
 use crate::ends::{End, Kind, Met};
 use crate::frame::{frame_bytes, FRAME_HEAD_BYTES};
-use crate::inputs::{self, Known};
+use crate::inputs::{self, Input, Known};
 use crate::reached::Reached;
 use crate::script::Walk;
 use crate::session::{Session, Step, CARRIER_CAN, CARRIER_RUNNING, HIGHEST_SPEED};
@@ -74,12 +74,8 @@ impl Maker {
         session.address = edges::any_address(dice);
         session.expected = step.expects().near(edges::count(session.address, dice));
         session.speed = dice.below(usize::from(HIGHEST_SPEED) + 1) as u8;
-        let items = match step {
-            Step::Uart(step) => inputs::bytes(step, &session, self.known, dice),
-            Step::Can(step) => inputs::frame(step, &session, self.known, dice).1,
-            Step::None | Step::Running => vec![],
-        };
-        session.staged.iter_mut().zip(items).take(STAGED_FIRST).for_each(|(byte, item)| *byte = item);
+        let fitting = Input::fitting(step, &session, self.known, dice);
+        session.staged.iter_mut().zip(fitting.data()).take(STAGED_FIRST).for_each(|(byte, item)| *byte = *item);
         let left = if session.carrier == CARRIER_CAN { dice.between(1, 9) } else { 1 };
         let any = dice.below(session.expected);
         session.taken = if dice.once_in(8) { any } else { session.expected.saturating_sub(left) };
@@ -120,26 +116,23 @@ impl Maker {
         let dice = &mut self.dice;
         let session = vector.session();
         let fits = !dice.once_in(6);
-        let byte = match session.sound_step().ok() {
-            Some(Step::Uart(step)) if fits => inputs::bytes(step, &session, self.known, dice)[0],
-            Some(Step::Can(step)) if fits => {
-                let frame = inputs::frame(step, &session, self.known, dice);
-                return self.frame(vector, frame);
-            }
-            Some(Step::Can(_)) => inputs::connect_byte(dice),
-            Some(Step::None | Step::Running) if dice.coin() => inputs::connect_byte(dice),
-            _ => {
-                let frame = inputs::connect_frame(dice);
-                return self.frame(vector, frame);
-            }
+        let input = match session.sound_step() {
+            Ok(step @ (Step::Uart(_) | Step::Can(_))) if fits => Input::fitting(step, &session, self.known, dice),
+            Ok(Step::Can(_)) => Input::connect_byte(dice),
+            Ok(Step::None | Step::Running) if dice.coin() => Input::connect_byte(dice),
+            _ => Input::connect_frame(dice),
         };
-        vector.put(BYTE, &[if dice.once_in(6) { dice.wrong(byte) } else { byte }]);
+        let spoilt = dice.once_in(6);
+        match input {
+            Input::Bytes(bytes) => vector.put(BYTE, &[if spoilt { dice.wrong(bytes[0]) } else { bytes[0] }]),
+            Input::Frame(id, data) => self.frame(vector, id, data, spoilt),
+        }
     }
 
-    /// Gives a frame, now and then spoilt, of a wrong length, or with a DLC that is none.
-    fn frame(&mut self, vector: &mut Vector, (mut id, mut data): (u16, Vec<u8>)) {
+    /// Gives a frame, spoilt if it is to be, now and then of a wrong length, or with a DLC that is none.
+    fn frame(&mut self, vector: &mut Vector, mut id: u16, mut data: Vec<u8>, spoilt: bool) {
         let dice = &mut self.dice;
-        if dice.once_in(6) {
+        if spoilt {
             inputs::spoil_frame(&mut id, &mut data, dice);
         }
         let mut frame = frame_bytes(id, &data).to_vec();
