@@ -41,26 +41,20 @@ impl Known {
     }
 }
 
-/// A part of what a host sends.
+/// A part of what a host sends; counts are sent less one, and data, two-byte numbers and indexes are X each.
 #[derive(Clone, Copy, Debug)]
 pub enum Item {
     Command,
     Address,
-    /// A count X of bytes or sector indexes, less one.
     Count,
-    /// A count of sectors, less one.
     SectorCount,
-    /// An erase selector.
     Selector,
-    /// X bytes to write.
     Data,
-    /// X two-byte sector numbers.
     Numbers,
-    /// X sector indexes.
     Indexes,
     /// A speed, and a byte that is free.
     Speed,
-    /// Data of any length that are not used.
+    /// Data that are not used.
     Any,
 }
 
@@ -90,7 +84,7 @@ pub enum Check {
     Command,
     /// By the complement of a byte.
     Complement,
-    /// By the XOR of X less one and all items; an address has no X, which counts as 1.
+    /// By the XOR of all items and of X less one, which is 0 for an address.
     Xor,
     /// By the complement of the XOR of all items.
     Inverse,

@@ -94,12 +94,11 @@ impl Host {
     fn line(&mut self, board: &Board) -> Vec<u8> {
         let step = board.session.sound_step().ok();
         match (self.dice.below(48 + board.session.left()), step) {
-            (0, _) => b"P".to_vec(),
+            (0, _) | (8..30, Some(Step::Running)) => b"P".to_vec(),
             (1..5, _) => self.no_line(),
             (5..8, Some(Step::Uart(_))) if self.kind == Kind::Mixed => self.stray(true),
             (5..8, Some(Step::Can(_))) => self.stray(false),
             (_, Some(step @ (Step::Uart(_) | Step::Can(_)))) => self.fitting(board, step),
-            (8..30, Some(Step::Running)) => b"P".to_vec(),
             _ => {
                 let on_can = self.kind == Kind::Mixed && self.dice.coin();
                 self.stray(on_can)

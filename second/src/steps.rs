@@ -1,4 +1,4 @@
-//! The table of all steps and commands: what a host sends at each, and how that can end.
+//! The table of all steps and commands, a row for each: what a host sends there, and how that can end.
 
 use crate::board::Memory;
 use crate::can::needed_dlc;

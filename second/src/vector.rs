@@ -6,6 +6,7 @@ use crate::ends::{Given, Met};
 use crate::hex::{print_fields, read_fields};
 use crate::memories::Store;
 use crate::session::{Session, STAGED_BYTES};
+use std::array::from_fn;
 use std::io::{self, BufRead, ErrorKind, Write};
 
 /// The bytes of a vector's line.
@@ -106,22 +107,20 @@ impl Vector {
         self.number(buffer.0, 4) as usize
     }
 
+    /// The byte at an index by the seed and stride at a place.
+    fn by_rule(&self, place: usize, index: usize) -> u8 {
+        self.bytes[place].wrapping_add(self.bytes[place + 1].wrapping_mul(index as u8))
+    }
+
     /// The bytes of a memory, each by seed and stride.
     fn memory(&self, memory: Buffer) -> Vec<u8> {
-        let [seed, stride] = [4, 5].map(|place| self.bytes[memory.0 + place]);
-        let by_rule = |index| by_rule(seed, stride, index);
-        (0..self.length(memory)).map(by_rule).collect()
+        (0..self.length(memory)).map(|index| self.by_rule(memory.0 + 4, index)).collect()
     }
 
     /// The session that the vector says.
     pub fn session(&self) -> Session {
-        let first = &self.bytes[STAGED..][..STAGED_FIRST];
-        let [seed, stride] = [0, 1].map(|place| self.bytes[STAGED_RULE + place]);
-        let mut staged = [0; STAGED_BYTES];
-        for (index, byte) in staged.iter_mut().enumerate() {
-            let said = first.get(index).copied();
-            *byte = said.unwrap_or_else(|| by_rule(seed, stride, index));
-        }
+        let mut staged: [u8; STAGED_BYTES] = from_fn(|index| self.by_rule(STAGED_RULE, index));
+        staged[..STAGED_FIRST].copy_from_slice(&self.bytes[STAGED..][..STAGED_FIRST]);
         Session {
             carrier: self.bytes[CARRIER],
             step: self.bytes[STEP],
@@ -214,11 +213,6 @@ impl Vector {
         }
         line(b'>', &bytes)
     }
-}
-
-/// The byte at an index by seed and stride.
-fn by_rule(seed: u8, stride: u8, index: usize) -> u8 {
-    seed.wrapping_add(stride.wrapping_mul(index as u8))
 }
 
 /// A line of a letter and bytes, ended by LF.
