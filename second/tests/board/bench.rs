@@ -1,6 +1,9 @@
-//! A board under test that is spoken to in hex, as document 01 writes its talks.
+//! What tests share: a board that is spoken to in hex, as document 01 writes its talks, and a program that is run.
 
 use second::{take_can_frame, take_uart_byte, Outcome, Session, Store, ACCEPTED};
+use std::io::Write;
+use std::path::Path;
+use std::process::{Command, Stdio};
 
 /// What reply buffers hold before a call.
 const UNTOUCHED: u8 = 0xC3;
@@ -99,4 +102,17 @@ pub fn pairs<A: Copy, B: Copy>(firsts: impl IntoIterator<Item = A>, seconds: imp
 /// A session with nothing taken, nothing staged, address 0 and the fresh speed.
 pub fn session_at(carrier: u8, step: u8, expected: usize) -> Session {
     Session { carrier, step, expected, ..Session::power_on() }
+}
+
+/// Runs a program in a folder, with words and an input: what it says on both streams, a character for each byte, and its exit status.
+pub fn run(folder: &Path, program: &str, words: &str, input: &str) -> (String, String, i32) {
+    let mut command = Command::new(program);
+    let command = command.current_dir(folder).args(words.split_whitespace());
+    let mut started = command.stdin(Stdio::piped()).stdout(Stdio::piped()).stderr(Stdio::piped()).spawn().unwrap();
+    // A program that reads no input may have ended before it is written.
+    let input: Vec<u8> = input.chars().map(|character| character as u8).collect();
+    let _ = started.stdin.take().unwrap().write_all(&input);
+    let output = started.wait_with_output().unwrap();
+    let text = |bytes: Vec<u8>| bytes.into_iter().map(char::from).collect();
+    (text(output.stdout), text(output.stderr), output.status.code().unwrap())
 }

@@ -106,18 +106,18 @@ fn causes_come_in_order() {
     assert_eq!(numbers(2, 64, running), [5; 3]);
 }
 
-/// The numbers each step may expect, written out from document 01.
-fn allowed(carrier: u8, step: u8) -> Vec<usize> {
+/// Tells whether a step may expect a number, written out from document 01.
+fn is_allowed(carrier: u8, step: u8, expected: usize) -> bool {
     match (carrier, step) {
-        (0 | 3, 0) | (2, 0) | (1, 6 | 9 | 11) => vec![1],
-        (1, 0 | 5 | 8) => vec![2],
-        (1, 1..=4) => vec![5],
-        (1, 7 | 12) => (2..=257).collect(),
-        (1, 10) => (3..=65).step_by(2).collect(),
-        (1, 13) => vec![3],
-        (2, 1 | 3) => (1..=256).collect(),
-        (2, 2) => (2..=64).step_by(2).collect(),
-        _ => vec![],
+        (0 | 3, 0) | (2, 0) | (1, 6 | 9 | 11) => expected == 1,
+        (1, 0 | 5 | 8) => expected == 2,
+        (1, 1..=4) => expected == 5,
+        (1, 7 | 12) => (2..=257).contains(&expected),
+        (1, 10) => (3..=65).contains(&expected) && expected % 2 == 1,
+        (1, 13) => expected == 3,
+        (2, 1 | 3) => (1..=256).contains(&expected),
+        (2, 2) => (2..=64).contains(&expected) && expected % 2 == 0,
+        _ => false,
     }
 }
 
@@ -130,39 +130,20 @@ fn is_sound(session: Session, store: &mut Store) -> bool {
     !uart
 }
 
-/// Every carrier with every step.
-fn steps() -> Vec<(u8, u8)> {
-    pairs([0, 1, 2, 3, 4, 255], (0..=20).chain([255]))
-}
-
-/// Unsound when carrier "exceeds 3, the step is not one of the carrier's, expected is not allowed".
+/// Unsound when carrier or speed "exceeds 3, the step is not one of the carrier's, expected is not allowed", or "taken is not below
+/// expected".
 #[test]
-fn each_step_expects_what_the_rules_say() {
+fn sound_sessions() {
     let mut store = Store::fresh();
-    for ((carrier, step), expected) in pairs(steps(), (0..=300).chain([usize::MAX])) {
-        let session = session_at(carrier, step, expected);
-        assert_eq!(is_sound(session, &mut store), allowed(carrier, step).contains(&expected));
-    }
-}
-
-/// Unsound when "taken is not below expected", or speed "exceeds 3".
-#[test]
-fn taken_and_speed_have_bounds() {
-    let mut store = Store::fresh();
-    let expected = |(carrier, step)| allowed(carrier, step).into_iter().map(move |most| session_at(carrier, step, most));
-    for (session, past) in pairs(steps().into_iter().flat_map(expected), [0, 1, 2, usize::MAX].into_iter()) {
-        let taken = (session.expected - 1).saturating_add(past);
-        assert_eq!(is_sound(Session { taken, ..session }, &mut store), past == 0);
+    let steps = pairs([0, 1, 2, 3, 4, 255], (0..=20).chain([255]));
+    for ((carrier, step), expected) in pairs(steps, (0..=300).chain([usize::MAX])) {
+        for taken in [0, expected.saturating_sub(1), expected, expected.saturating_add(1), usize::MAX] {
+            let session = Session { taken, ..session_at(carrier, step, expected) };
+            assert_eq!(is_sound(session, &mut store), is_allowed(carrier, step, expected) && taken < expected);
+        }
     }
     let mut at_speed = |speed| is_sound(Session { speed, ..session_at(2, 0, 1) }, &mut store);
     assert!((0..=3).all(&mut at_speed) && !(4..=255).any(at_speed));
-}
-
-/// "Power on gives speed 2, expected 1 and every other number 0."
-#[test]
-fn power_on_gives_a_fresh_session() {
-    let fresh = Session { carrier: 0, step: 0, taken: 0, expected: 1, address: 0, speed: 2, staged: [0; 257] };
-    assert_eq!(Session::power_on(), fresh);
 }
 
 /// "A command is a byte and its complement. Wrong complement, unknown or protected: NACK."
@@ -182,13 +163,10 @@ fn every_command_byte_and_complement() {
 fn protected_commands() {
     for (access, command) in pairs(0..=255, LIST.into_iter()) {
         let is_refused = access != 0xA5 && PROTECTED.contains(&command);
-        let mut bench = Bench::idle_on(1);
-        bench.store.usd[0] = access;
-        assert_eq!(bench.uart(&[command, !command]) == "1F", is_refused);
-        let mut bench = Bench::idle_on(2);
-        bench.store.usd[0] = access;
-        let reply = bench.can(u16::from(command), data_of(u16::from(command), dlc_of(command.into())));
-        assert_eq!(reply == format!("{command:03X}:1F"), is_refused);
+        let (mut on_uart, mut on_can, id) = (Bench::idle_on(1), Bench::idle_on(2), u16::from(command));
+        (on_uart.store.usd[0], on_can.store.usd[0]) = (access, access);
+        assert_eq!(on_uart.uart(&[command, !command]) == "1F", is_refused);
+        assert_eq!(on_can.can(id, data_of(id, dlc_of(id))) == format!("{command:03X}:1F"), is_refused);
     }
 }
 

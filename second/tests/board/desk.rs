@@ -5,8 +5,11 @@ use std::io::{self, BufRead, BufReader, Read, Write};
 use std::process::{Command, Stdio};
 
 /// The five-line example of document 01, and what it prints, whole.
-const EXAMPLE_INPUT: &str = "U 7F\nU 01 FE\nP\nC 079\nQ\n";
-const EXAMPLE_OUTPUT: &str = "> 79\n> 79 20 01 07 79\n>\n> 079:79\n? 5\n";
+const EXAMPLE_INPUT: &str = include_str!("../../../expected/example.in");
+const EXAMPLE_OUTPUT: &str = include_str!("../../../expected/example.out");
+
+/// The worked examples of document 01 as one talk.
+const WORKED: [&str; 2] = [include_str!("../../../expected/worked-talk.in"), include_str!("../../../expected/worked-talk.out")];
 
 /// Lines that are none, one behind each bar: wrong fields, digits, spaces and letters.
 const NO_LINES: &str = "||U|U |U 7|U 7f|U 7F |U  7F| U 7F|U7F|u 7F|U 7F\r|U\t7F|U 7F0|U 7F 0|U 7F,80|U 0x7F|U +7|U 7F7F|\
@@ -20,10 +23,11 @@ fn desk(input: impl AsRef<[u8]>) -> String {
     String::from_utf8(output).unwrap()
 }
 
-/// The example with and without its last LF, and no input at all.
+/// The examples, with and without their last LF, and no input at all.
 #[test]
-fn the_example_byte_for_byte() {
+fn the_examples_byte_for_byte() {
     assert_eq!(desk(EXAMPLE_INPUT), EXAMPLE_OUTPUT);
+    assert_eq!(desk(WORKED[0]), WORKED[1]);
     assert_eq!(desk(EXAMPLE_INPUT.trim_end()), EXAMPLE_OUTPUT);
     assert_eq!(desk(""), "");
 }

@@ -5,7 +5,6 @@ mod calls;
 mod crc;
 mod desk;
 mod files;
-mod random_vectors;
-mod scripts;
+mod programs;
 mod talks;
 mod vectors;

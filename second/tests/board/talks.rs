@@ -11,16 +11,11 @@
 
 use crate::bench::{hex, Bench};
 use second::desk;
+use second::line::{Line, LINE_BYTES};
 use second::{Session, Store, ACCEPTED};
 
 /// The talks, which stand in files beside this one.
-const TALKS: [&str; 5] = [
-    include_str!("worked.talk"),
-    include_str!("uart.talk"),
-    include_str!("can.talk"),
-    include_str!("effects.talk"),
-    include_str!("sessions.talk"),
-];
+const TALKS: [&str; 3] = [include_str!("uart.talk"), include_str!("can.talk"), include_str!("sessions.talk")];
 
 /// The marks of what is set, typed, printed and changed.
 const MARKS: [&str; 6] = ["!", "U", "C", "P", ">", "="];
@@ -28,7 +23,6 @@ const MARKS: [&str; 6] = ["!", "U", "C", "P", ">", "="];
 /// A board in a talk, what its last line printed, and what must be so after that line.
 struct Talk {
     bench: Bench,
-    lines: usize,
     printed: Option<String>,
     store: Store,
     session: Option<Session>,
@@ -36,39 +30,27 @@ struct Talk {
 }
 
 impl Talk {
-    /// A fresh board, just powered, to which nothing has been said.
-    fn fresh() -> Talk {
-        let bench = Bench::at(Session::power_on());
-        Talk { store: bench.store.clone(), bench, lines: 0, printed: None, session: None, number: ACCEPTED }
-    }
-
-    /// Takes what stands behind a mark.
+    /// Takes what is said.
     fn take(&mut self, said: &str) {
-        let (mark, what) = said.split_once(' ').unwrap_or((said, ""));
-        match mark {
-            "!" => self.set(what),
-            "=" => self.expect(what),
-            ">" => assert_eq!(self.printed.take().as_deref(), Some(said)),
-            _ => self.type_line(mark, what),
+        match said.split_once(' ') {
+            Some(("!", what)) => self.set(what),
+            Some(("=", what)) => self.expect(what),
+            _ if said.starts_with('>') => assert_eq!(self.printed.take().as_deref(), Some(said)),
+            _ => self.type_line(said),
         }
     }
 
     /// Types a line, once what the line before has left is tested.
-    fn type_line(&mut self, kind: &str, fields: &str) {
+    fn type_line(&mut self, line: &str) {
         self.test();
-        self.lines += 1;
-        let replies = match kind {
-            "U" => self.bench.uart(&hex(fields)),
-            "C" => {
-                let (id, data) = fields.split_once(' ').unwrap_or((fields, ""));
-                let id = u16::from_str_radix(id, 16).unwrap();
-                self.bench.can(id, &hex(data))
-            }
-            "P" => {
+        let replies = match Line::read(line.as_bytes(), &mut [0; LINE_BYTES]) {
+            Some(Line::Uart(bytes)) => self.bench.uart(bytes),
+            Some(Line::Can(id, data)) => self.bench.can(id, data),
+            Some(Line::PowerOn) => {
                 self.bench.session = Session::power_on();
                 String::new()
             }
-            _ => panic!("no mark: {kind}"),
+            None => panic!("no line: {line}"),
         };
         self.printed = Some(format!("> {replies}").trim_end().to_string());
     }
@@ -85,16 +67,13 @@ impl Talk {
 
     /// Notes what must be so after the last line.
     fn expect(&mut self, what: &str) {
-        let what = match what {
-            "fresh" => "session 0 0 0 1 0 2",
-            "idle on UART" => "session 1 0 0 2 0 2",
-            "idle on CAN" => "session 2 0 0 1 0 2",
-            other => other,
-        };
         match what.split_once(' ') {
-            Some(("refused", number)) => self.number = number.parse().unwrap(),
+            None => self.session = Some(session("0 0 0 1 0 2")),
+            Some(("idle", "on UART")) => self.session = Some(session("1 0 0 2 0 2")),
+            Some(("idle", "on CAN")) => self.session = Some(session("2 0 0 1 0 2")),
             Some(("session", numbers)) => self.session = Some(session(numbers)),
-            _ => change(what, &mut self.store),
+            Some(("refused", number)) => self.number = number.parse().unwrap(),
+            Some(_) => change(what, &mut self.store),
         }
     }
 
@@ -127,9 +106,9 @@ fn change(what: &str, store: &mut Store) {
     let (first, bytes) = rest.split_once(' ').unwrap();
     let (first, bytes): (usize, _) = (first.parse().unwrap(), hex(bytes));
     let memory = match memory {
-        "flash" => &mut store.flash[..],
-        "sram" => &mut store.sram[..],
-        "usd" => &mut store.usd[..],
+        "flash" => &mut store.flash,
+        "sram" => &mut store.sram,
+        "usd" => &mut store.usd,
         _ => panic!("no memory: {memory}"),
     };
     memory[first..first + bytes.len()].copy_from_slice(&bytes);
@@ -140,45 +119,30 @@ fn said(part: &str) -> Vec<String> {
     let mut said: Vec<String> = Vec::new();
     for field in part.split_whitespace() {
         let (field, times) = field.split_once('*').unwrap_or((field, "1"));
-        let times: usize = times.parse().unwrap();
         match said.last_mut() {
-            Some(last) if !MARKS.contains(&field) => *last += &format!(" {field}").repeat(times),
+            Some(last) if !MARKS.contains(&field) => *last += &format!(" {field}").repeat(times.parse().unwrap()),
             _ => said.push(field.to_string()),
         }
     }
     said
 }
 
-/// The parts of all talks: the sentence, and what is said.
-fn parts() -> impl Iterator<Item = (&'static str, Vec<String>)> {
-    let parts = TALKS.iter().flat_map(|talk| talk.split("# ").skip(1));
-    let parts = parts.map(|part| part.split_once('\n').unwrap());
-    parts.map(|(sentence, part)| (sentence, said(part)))
-}
-
-/// Each line of each talk is answered as it says, and changes what it says.
+/// Each line of each talk is answered as it says, and changes what it says; `desk` prints each part in which nothing is set.
 #[test]
 fn each_talk_is_so() {
-    for (sentence, part) in parts() {
+    for part in TALKS.iter().flat_map(|talk| talk.split("# ").skip(1)) {
+        let (sentence, part) = part.split_once('\n').unwrap();
         println!("{sentence}");
-        let mut talk = Talk::fresh();
-        part.iter().for_each(|said| talk.take(said));
+        let said = said(part);
+        let bench = Bench::at(Session::power_on());
+        let mut talk = Talk { store: bench.store.clone(), bench, printed: None, session: None, number: ACCEPTED };
+        said.iter().for_each(|said| talk.take(said));
         talk.test();
-        assert!(talk.lines > 0);
-    }
-}
-
-/// `desk` prints each talk in which nothing is set.
-#[test]
-fn desk_prints_each_talk() {
-    let is_set = |part: &[String]| part.iter().any(|said| said.starts_with('!'));
-    for (sentence, part) in parts().filter(|(_, part)| !is_set(part)) {
-        let of = |marks: &[char]| {
-            let said = part.iter().filter(|said| said.starts_with(marks));
-            said.map(|said| format!("{said}\n")).collect::<String>()
-        };
-        let mut printed = Vec::new();
-        desk::run(&mut of(&['U', 'C', 'P']).as_bytes(), &mut printed).unwrap();
-        assert_eq!(String::from_utf8(printed).unwrap(), of(&['>']), "{sentence}");
+        if !said.iter().any(|said| said.starts_with('!')) {
+            let of = |marks: &[char]| said.iter().filter(|said| said.starts_with(marks)).fold(String::new(), |all, said| all + said + "\n");
+            let mut printed = Vec::new();
+            desk::run(&mut of(&['U', 'C', 'P']).as_bytes(), &mut printed).unwrap();
+            assert_eq!(String::from_utf8(printed).unwrap(), of(&['>']));
+        }
     }
 }

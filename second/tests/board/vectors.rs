@@ -1,20 +1,15 @@
-//! Vectors: their lines, the digest, and answers worked out by hand from document 01.
+//! Vectors: their lines, the digest, answers worked out by hand from document 01, and what any call promises.
 
-use crate::bench::{hex, spaced};
-use crate::scripts::program;
+use crate::bench::{self, hex, spaced};
 use second::vector::{adler32, run, Vector};
-use std::process::Output;
+use second::vectors::random;
+use std::path::Path;
 
 /// A line written out whole: the fresh board, erased, takes 7F.
 const BYTE_LINE: &str = "B 00 00 00 00 00 00 00 00 00 00 00 00 00 00 00 00 00 01 00 00 00 00 02 \
     00 00 00 00 00 00 00 00 00 00 00 00 00 00 00 00 00 00 \
     00 00 80 00 FF 00 00 00 20 00 00 00 00 00 00 40 FF 00 A5 FF FF FF FF \
     00 00 01 01 00 7F 00 00 00 00 00 00 00 00 00 00 00 00 00";
-
-/// Runs the program `vectors`.
-pub fn vectors(words: &[&str], input: &[u8]) -> Output {
-    program(env!("CARGO_BIN_EXE_vectors"), words, input)
-}
 
 /// What `run` prints for a line.
 fn answer_to(line: &str) -> String {
@@ -101,8 +96,25 @@ fn other_lines_are_no_vectors() {
     lines.extend([BYTE_LINE.replacen('B', "C", 1), BYTE_LINE.replacen('B', "F", 1), frame.replacen('F', "B", 1), String::new()]);
     for line in lines {
         assert_eq!(Vector::read(line.as_bytes()), None, "{line}");
-        let output = vectors(&["run"], format!("{BYTE_LINE}\n{line}\n").as_bytes());
-        assert_eq!((output.stdout, output.status.code()), (answer_to(BYTE_LINE).into_bytes(), Some(1)));
-        assert_eq!(output.stderr, b"line 2 is no vector\n");
+        let said = bench::run(Path::new("."), env!("CARGO_BIN_EXE_vectors"), "run", &format!("{BYTE_LINE}\n{line}\n"));
+        assert_eq!(said, (answer_to(BYTE_LINE), "line 2 is no vector\n".into(), 1));
+    }
+}
+
+/// A line of 251 characters is read back as its vector; a refused call leaves everything, an accepted one a sound session.
+#[test]
+fn every_call_keeps_its_promises() {
+    for vector in random(5, 4_500) {
+        let line = vector.line();
+        assert_eq!(line.len(), 251);
+        assert_eq!(Vector::read(line.strip_suffix(b"\n").unwrap()), Some(vector.clone()));
+        let (after, reply) = (vector.call(), vector.reply());
+        match after.called {
+            Ok(taken) => {
+                assert_eq!(after.reply[taken.length..], reply[taken.length..]);
+                assert!(after.session.sound_step().is_ok());
+            }
+            Err(_) => assert_eq!((after.session, after.store, after.reply), (vector.session(), vector.store(), reply)),
+        }
     }
 }
