@@ -1,8 +1,8 @@
 //! Talks: the lines of `desk` that are typed, each followed by what is printed and what changes.
 //!
 //! A part of a talk begins with the sentence of document 01 that it tries, behind `#`, and a fresh
-//! board. `U`, `C` and `P` type a line of `desk`, and `>` is what that prints. `!` sets memories or
-//! the session before. `=` tells what the line has changed: every other byte of the memories must be
+//! board, or with `#U` or `#C` and one that is then connected on UART or CAN. `U`, `C` and `P` type a
+//! line of `desk`, and `>` is what that prints. `!` sets memories or the session before. `=` tells what the line has changed: every other byte of the memories must be
 //! as it was, and each call accepted unless `refused` tells its cause. `FF*3` stands for three `FF`.
 //!
 //!     ! MEMORY FIRST BYTES         flash, sram or usd, from an offset on
@@ -130,10 +130,15 @@ fn said(part: &str) -> Vec<String> {
 /// Each line of each talk is answered as it says, and changes what it says; `desk` prints each part in which nothing is set.
 #[test]
 fn each_talk_is_so() {
-    for part in TALKS.iter().flat_map(|talk| talk.split("# ").skip(1)) {
+    for part in TALKS.iter().flat_map(|talk| talk.split('#').skip(1)) {
         let (sentence, part) = part.split_once('\n').unwrap();
         println!("{sentence}");
-        let said = said(part);
+        let connecting = match &sentence[..1] {
+            "U" => "U 7F  > 79  ",
+            "C" => "C 079  > 079:79  ",
+            _ => "",
+        };
+        let said = said(&format!("{connecting}{part}"));
         let bench = Bench::at(Session::power_on());
         let mut talk = Talk { store: bench.store.clone(), bench, printed: None, session: None, number: ACCEPTED };
         said.iter().for_each(|said| talk.take(said));
