@@ -5,10 +5,12 @@ use second::board::{ERASED, FLASH};
 use second::srecord::{load, said};
 use std::env;
 use std::io::{self, Write};
-use std::path::Path;
 use std::process::ExitCode;
 
-const USAGE: &str = "images [FILE SHIFT BYTES]...";
+const USAGE: &str = "images [FILE SHIFT BYTES]...
+
+Loads each FILE, SHIFT added to each address, into the first BYTES of one array of 32769 bytes, which is
+erased at first. Says of each what image says, and prints the rows of 16 bytes that it has changed.";
 const MISUSED: u8 = 2;
 
 /// The words of one loading.
@@ -20,33 +22,21 @@ const ARRAY_BYTES: usize = FLASH.bytes + 1;
 /// The bytes of a row.
 const ROW_BYTES: usize = 16;
 
-/// One loading: a file into the first bytes of the array.
-struct Loading<'w> {
-    file: &'w str,
-    shift: i16,
-    bytes: usize,
-}
-
-/// Reads the words of one loading.
-fn loading(words: &[String]) -> Option<Loading<'_>> {
-    let [file, shift, bytes] = words else {
-        return None;
-    };
-    let bytes = bytes.parse().ok().filter(|bytes| *bytes <= ARRAY_BYTES)?;
-    let shift = shift.parse().ok()?;
-    Some(Loading { file, shift, bytes })
-}
-
-/// Loads a file into the array, and tells what is said of it.
-fn run(loading: &Loading, array: &mut [u8]) -> String {
-    let said = match said::read_text(Path::new(loading.file)) {
-        Ok(text) => {
-            let answer = load(&text, loading.shift, &mut array[..loading.bytes]);
-            said::said(&answer)
-        }
-        Err(why) => why,
-    };
-    format!("{}{said}\n", loading.file)
+/// Does every loading in order, and gives what is to be printed; nothing where the words are no loadings.
+fn printed(words: &[String]) -> Option<String> {
+    let mut array = [ERASED; ARRAY_BYTES];
+    let mut printed = String::new();
+    for loading in words.chunks(WORDS) {
+        let [file, shift, bytes] = loading else { return None };
+        let before = array;
+        let (shift, image) = (shift.parse().ok()?, array.get_mut(..bytes.parse().ok()?)?);
+        let said = match said::read_text(file.as_ref()) {
+            Ok(text) => said::said(&load(&text, shift, image)),
+            Err(why) => why,
+        };
+        printed += &format!("{file}{said}\n{}", changed(&before, &array));
+    }
+    Some(printed)
 }
 
 /// The rows of the array that differ from what they were.
@@ -55,27 +45,18 @@ fn changed(before: &[u8], array: &[u8]) -> String {
     let mut text = String::new();
     for (offset, (_, row)) in (0..).step_by(ROW_BYTES).zip(rows).filter(|(_, (old, new))| old != new) {
         let fields: String = row.iter().map(|byte| format!(" {byte:02X}")).collect();
-        text.push_str(&format!("{offset:04X}:{fields}\n"));
+        text += &format!("{offset:04X}:{fields}\n");
     }
     text
 }
 
-/// Does every loading in order, or prints how the program is run.
+/// Does what the words behind the program's name say, or prints how the program is run.
 fn main() -> ExitCode {
     let words: Vec<String> = env::args().skip(1).collect();
-    let Some(loadings) = words.chunks(WORDS).map(loading).collect::<Option<Vec<_>>>() else {
+    let Some(printed) = printed(&words) else {
         eprintln!("{USAGE}");
         return ExitCode::from(MISUSED);
     };
-    let mut array = [ERASED; ARRAY_BYTES];
-    let mut text = String::new();
-    for loading in &loadings {
-        let before = array;
-        text.push_str(&run(loading, &mut array));
-        text.push_str(&changed(&before, &array));
-    }
-    match io::stdout().write_all(text.as_bytes()) {
-        Ok(()) => ExitCode::SUCCESS,
-        Err(_) => ExitCode::FAILURE,
-    }
+    let said = io::stdout().write_all(printed.as_bytes());
+    ExitCode::from(u8::from(said.is_err()))
 }

@@ -6,7 +6,12 @@ use std::env;
 use std::io::{self, Read, Write};
 use std::process::ExitCode;
 
-const USAGE: &str = "script uart|mixed SEED LINES [covered] | script uart|mixed count [covered]";
+const USAGE: &str = "script uart|mixed SEED LINES [covered]
+script uart|mixed count [covered]
+
+The first prints a script for desk of exactly LINES lines, which SEED determines, and on standard error how often it
+reaches each pair of a step and an end; the second counts the same of a script on standard input. A pair that the
+table does not have gives exit status 1, and with the word covered so does one that was not reached.";
 const MISUSED: u8 = 2;
 
 /// The lines of the script on standard input.

@@ -6,17 +6,20 @@ use std::env;
 use std::io::{self, Write};
 use std::process::ExitCode;
 
-const USAGE: &str = "srecords SEED | srecords SEED COUNT [covered]";
+const USAGE: &str = "srecords SEED
+srecords SEED COUNT [covered]
+
+Prints the random S-record file of SEED and, on standard error, how it is to be loaded: the shift, and the
+image to load it onto, which is erased, old (random bytes), or one of a wrong length: short (32767 bytes),
+long (32769) or empty. With COUNT it tells how many of so many files reached each thing that can come of
+one; with the word covered, a thing that was not reached gives exit status 1.";
 const MISUSED: u8 = 2;
 
 /// Prints the file of a seed, and on standard error its shift and image.
 fn print(seed: u64) -> ExitCode {
     let file = RandomFile::of(seed);
     eprintln!("{} {}", file.shift, file.onto);
-    match io::stdout().write_all(&file.text) {
-        Ok(()) => ExitCode::SUCCESS,
-        Err(_) => ExitCode::FAILURE,
-    }
+    ExitCode::from(u8::from(io::stdout().write_all(&file.text).is_err()))
 }
 
 /// Prints what so many files reach; with `covered`, what is not reached is a failure.
@@ -24,8 +27,7 @@ fn count(first: u64, count: u64, covered: bool) -> ExitCode {
     match Reached::by(first..first.saturating_add(count)) {
         Ok(reached) => {
             print!("{reached}");
-            let failed = covered && !reached.missing().is_empty();
-            ExitCode::from(u8::from(failed))
+            ExitCode::from(u8::from(covered && !reached.missing().is_empty()))
         }
         Err(why) => {
             eprintln!("{why}");

@@ -8,7 +8,12 @@ use std::env;
 use std::io::{self, Write};
 use std::process::ExitCode;
 
-const USAGE: &str = "vectors generate SEED COUNT [covered] | vectors run | vectors count [covered]";
+const USAGE: &str = "vectors generate SEED COUNT [covered]
+vectors run
+vectors count [covered]
+
+The first prints COUNT vectors, which SEED determines, and counts what they reach as script does; the second answers
+the vectors on standard input; the third counts what they reach. A line that is no vector gives exit status 1.";
 const MISUSED: u8 = 2;
 
 /// Prints the vectors of a seed, and tells what they reach.

@@ -1,10 +1,8 @@
 //! Loading a text into an image of flash.
 
-use super::lines::lines;
+use super::lines;
 use super::record::{Flaw, Kind, Record};
 use crate::board::{FLASH, SECTOR_BYTES};
-
-pub const ACCEPTED: u8 = 0;
 
 /// Why a text is refused, in Wish 1's order, with the type digit's value of the line that decides.
 #[derive(Clone, Copy, Debug, PartialEq, Eq)]
@@ -21,20 +19,6 @@ pub enum Cause {
     Overlap(u8),
     /// No line is faulty, and none ends the file.
     NoEndingRecord,
-}
-
-impl Cause {
-    /// The cause's number in Wish 1's order.
-    pub fn number(self) -> u8 {
-        match self {
-            Cause::WrongImageLength => 1,
-            Cause::BadLine(_) => 2,
-            Cause::BadChecksum(_) => 3,
-            Cause::AddressOutsideFlash(_) => 4,
-            Cause::Overlap(_) => 5,
-            Cause::NoEndingRecord => 6,
-        }
-    }
 }
 
 /// A refused text: why, and the line that decides, from 1, or 0 where no line does.
@@ -55,14 +39,6 @@ pub struct Loaded {
 
 /// What comes of loading a text.
 pub type Answer = Result<Loaded, Refusal>;
-
-/// The numbers of an answer: its cause, or `ACCEPTED`, and its line.
-pub fn numbers(answer: &Answer) -> (u8, usize) {
-    match answer {
-        Ok(_) => (ACCEPTED, 0),
-        Err(refusal) => (refusal.cause.number(), refusal.line),
-    }
-}
 
 /// Loads a text into an image, the shift added to each address; a refused text leaves the image.
 pub fn load(text: &[u8], shift: i16, image: &mut [u8]) -> Answer {
@@ -113,17 +89,17 @@ impl Loading {
         Ok(())
     }
 
-    /// Puts the data of a record that has some into the image.
+    /// Puts the data of a record that has some into the image, when all its bytes lie in flash after the shift.
     fn store(&mut self, record: &Record) -> Result<(), Cause> {
-        let first = place(record, self.shift).ok_or(Cause::AddressOutsideFlash(record.digit))?;
+        let address = record.address.checked_add_signed(self.shift.into());
+        let first = address.and_then(|address| FLASH.offset_of(address, record.count()));
+        let first = first.ok_or(Cause::AddressOutsideFlash(record.digit))?;
         let places = first..first + record.count();
-        let is_loaded = &mut self.is_loaded[places.clone()];
-        if is_loaded.contains(&true) {
+        if self.is_loaded[places.clone()].contains(&true) {
             return Err(Cause::Overlap(record.digit));
         }
-        is_loaded.fill(true);
-        for (byte, new) in self.image[places].iter_mut().zip(record.bytes()) {
-            *byte = new;
+        for (place, byte) in places.zip(record.bytes()) {
+            (self.image[place], self.is_loaded[place]) = (byte, true);
         }
         Ok(())
     }
@@ -136,10 +112,4 @@ impl Loading {
             sectors: sectors.filter(|sector| sector.contains(&true)).count(),
         }
     }
-}
-
-/// The place in the image of a record's first byte, when all its bytes lie in flash after the shift.
-fn place(record: &Record, shift: i16) -> Option<usize> {
-    let address = i64::from(record.address) + i64::from(shift);
-    FLASH.offset_of(u32::try_from(address).ok()?, record.count())
 }

@@ -1,6 +1,6 @@
 //! What can come of a text, by names: what its lines did, what refused it, and how much it loaded.
 
-use super::lines::lines;
+use super::lines;
 use super::load::{Answer, Cause, Refusal};
 use super::record::{Flaw, Kind, Record, TYPES};
 use crate::board::FLASH;

@@ -118,26 +118,16 @@ impl<'t> Record<'t> {
 /// The low byte of the sum of the count and all pairs, 0xFF where the last of them is the ones'
 /// complement of the others' sum; a pair that is no hex digits gives nothing.
 fn sum(count: u8, pairs: &[u8]) -> Option<u8> {
-    pairs.chunks_exact(PAIR).try_fold(count, |sum, pair| Some(sum.wrapping_add(byte([pair[0], pair[1]])?)))
+    pairs.as_chunks().0.iter().try_fold(count, |sum, pair| Some(sum.wrapping_add(byte(*pair)?)))
 }
 
 /// The bytes of pairs that are known to be hex digits.
 fn bytes(pairs: &[u8]) -> impl Iterator<Item = u8> + '_ {
-    let pairs = pairs.chunks_exact(PAIR);
-    pairs.filter_map(|pair| byte([pair[0], pair[1]]))
+    pairs.as_chunks().0.iter().filter_map(|pair| byte(*pair))
 }
 
-/// The byte of two hex digits.
-fn byte([high, low]: [u8; PAIR]) -> Option<u8> {
-    Some(value(high)? << 4 | value(low)?)
-}
-
-/// The value of a hex digit in either case.
-fn value(digit: u8) -> Option<u8> {
-    match digit {
-        b'0'..=b'9' => Some(digit - b'0'),
-        b'A'..=b'F' => Some(digit - b'A' + 10),
-        b'a'..=b'f' => Some(digit - b'a' + 10),
-        _ => None,
-    }
+/// The byte of two hex digits, in either case.
+fn byte(pair: [u8; PAIR]) -> Option<u8> {
+    let [high, low] = pair.map(|digit| char::from(digit).to_digit(16));
+    Some((high? << 4 | low?) as u8)
 }

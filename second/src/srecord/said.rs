@@ -1,13 +1,13 @@
 //! What the programs say of a text that was loaded or refused, and of a file that was not read.
 
-use super::load::{Answer, Cause, Loaded, Refusal};
+use super::load::{Answer, Cause};
 use crate::board::FLASH;
 use std::fs::File;
 use std::io::{self, Read};
 use std::path::Path;
 
 /// The most characters that a text may have.
-pub const MOST_CHARACTERS: usize = 2_097_152;
+const MOST_CHARACTERS: usize = 2_097_152;
 
 /// What is added where an S1 or S2 record lies outside flash.
 const USE_S3: &str = ": S1 and S2 records cannot reach it; link at 0x08000000 and write S3 records";
@@ -15,27 +15,10 @@ const USE_S3: &str = ": S1 and S2 records cannot reach it; link at 0x08000000 an
 /// Says what came of loading a text; what is said follows the name of the text's file, or, where
 /// the image's length is wrong, of the image's.
 pub fn said(answer: &Answer) -> String {
-    match answer {
-        Ok(loaded) => said_loaded(loaded),
-        Err(refusal) => said_refused(refusal),
-    }
-}
-
-/// Says how much was loaded.
-fn said_loaded(loaded: &Loaded) -> String {
-    let bytes = counted(loaded.bytes, "byte");
-    let sectors = counted(loaded.sectors, "sector");
-    format!(": {bytes} in {sectors}")
-}
-
-/// A number of things, of which one has no plural.
-fn counted(number: usize, name: &str) -> String {
-    let plural = if number == 1 { "" } else { "s" };
-    format!("{number} {name}{plural}")
-}
-
-/// Says why a text is refused.
-fn said_refused(refusal: &Refusal) -> String {
+    let refusal = match answer {
+        Ok(loaded) => return format!(": {} in {}", counted(loaded.bytes, "byte"), counted(loaded.sectors, "sector")),
+        Err(refusal) => refusal,
+    };
     let line = refusal.line;
     match refusal.cause {
         Cause::WrongImageLength => format!(": wrong image length: {} bytes wanted", FLASH.bytes),
@@ -46,6 +29,12 @@ fn said_refused(refusal: &Refusal) -> String {
         Cause::Overlap(_) => format!(":{line}: overlap with an earlier line"),
         Cause::NoEndingRecord => String::from(": no ending record"),
     }
+}
+
+/// A number of things, of which one has no plural.
+fn counted(number: usize, name: &str) -> String {
+    let plural = if number == 1 { "" } else { "s" };
+    format!("{number} {name}{plural}")
 }
 
 /// Reads a text from a file, or says why that cannot be; what is said follows the file's name.

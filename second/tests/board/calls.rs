@@ -113,10 +113,10 @@ fn is_allowed(carrier: u8, step: u8, expected: usize) -> bool {
         (1, 0 | 5 | 8) => expected == 2,
         (1, 1..=4) => expected == 5,
         (1, 7 | 12) => (2..=257).contains(&expected),
-        (1, 10) => (3..=65).contains(&expected) && expected % 2 == 1,
+        (1, 10) => (3..=65).contains(&expected) && !expected.is_multiple_of(2),
         (1, 13) => expected == 3,
         (2, 1 | 3) => (1..=256).contains(&expected),
-        (2, 2) => (2..=64).contains(&expected) && expected % 2 == 0,
+        (2, 2) => (2..=64).contains(&expected) && expected.is_multiple_of(2),
         _ => false,
     }
 }
