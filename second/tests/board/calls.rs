@@ -275,8 +275,9 @@ fn erase_selectors() {
 /// not used."
 #[test]
 fn another_id_or_dlc_0_while_gathering() {
-    let frames = [(0, &[][..]), (0x92, &[]), (0x79, &[]), (0x7FF, &[1]), (0x31, &[]), (0x44, &[]), (0x63, &[])];
-    for ((step, expected, id), (other, data)) in pairs([(1, 9, 0x31), (2, 10, 0x44), (3, 9, 0x63)], frames.into_iter()) {
+    let empty = [0, 0x92, 0x79, 0x31, 0x44, 0x63].map(|id| (id, &[][..]));
+    let others = [0x7FF, 0x131, 0x144, 0x163].map(|id| (id, &[1][..]));
+    for ((step, expected, id), (other, data)) in pairs([(1, 9, 0x31), (2, 10, 0x44), (3, 9, 0x63)], empty.into_iter().chain(others)) {
         let mut bench = Bench::at(session_at(2, step, expected));
         bench.store.usd[0] = 0;
         let before = bench.store.clone();
