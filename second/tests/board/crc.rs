@@ -1,6 +1,6 @@
 //! The CRC against its check value, divisions done bit by bit, and values that other programs gave.
 
-use crate::bench::spaced;
+use crate::bench::{with_xor, Bench};
 use second::crc::{crc32_mpeg2, crc32_mpeg2_of_words};
 
 /// The values that programs of others gave, as rows of a table.
@@ -45,7 +45,7 @@ fn values_of_the_talks() {
     assert_eq!(bit_by_bit(&[0xFF; 32_768]), 0x42A8_3D27);
 }
 
-/// Every value of the table, over the words themselves; the talks and stored scripts ask the board.
+/// Every value of the table, as the board answers on UART and on CAN.
 #[test]
 fn values_from_outside() {
     let cells = |line: &'static str| line.split('|').map(str::trim).collect::<Vec<_>>();
@@ -55,8 +55,13 @@ fn values_from_outside() {
     for row in rows {
         let mut flash = if row[1] == "firmware" { FIRMWARE.to_vec() } else { (0..=255).cycle().take(32_768).collect() };
         flash.resize(32_768, 0xFF);
-        let (first, sectors): (usize, usize) = (row[2].parse().unwrap(), row[3].parse().unwrap());
-        let range = &flash[1_024 * first..1_024 * (first + sectors)];
-        assert_eq!(spaced(&crc32_mpeg2_of_words(range.as_chunks().0).to_be_bytes()), row[4]);
+        let (first, sectors): (u32, u8) = (row[2].parse().unwrap(), row[3].parse().unwrap());
+        let (start, count) = ((0x0800_0000 + 1_024 * first).to_be_bytes(), sectors - 1);
+        let (mut on_uart, mut on_can) = (Bench::idle_on(1), Bench::idle_on(2));
+        (on_uart.store.flash, on_can.store.flash) = (flash.clone(), flash);
+        let asked = [&[0xAC, 0x53][..], &with_xor(&start), &[0, count, !count]].concat();
+        assert_eq!(on_uart.uart(&asked), format!("79 79 79 {}", row[4]));
+        let asked = [&start[..], &[0, count]].concat();
+        assert_eq!(on_can.can(0xAC, &asked), format!("0AC:79 0AC:{}", row[4].replace(' ', "")));
     }
 }
