@@ -19,6 +19,7 @@ pub mod refused;
 pub mod script;
 pub mod session;
 pub mod srecord;
+pub mod sweep;
 pub mod vector;
 pub mod vectors;
 

@@ -18,6 +18,9 @@ const TRIES: usize = 100;
 /// Characters that lines have, and some that they have not; LF ends a line and is not among them.
 const CHARACTERS: &[u8] = b"UCP 09AF/:@G`gau\t\r\0\x0B\x0C\x1F\x7F\x80\xD5\xFF";
 
+/// A right line of each kind, with and without bytes.
+const RIGHT_LINES: [&[u8]; 5] = [b"U 7F", b"U 00 FF", b"P", b"C 079", b"C 079 0A"];
+
 /// A board that tells what it met.
 #[derive(Clone, Debug)]
 pub struct Board {
@@ -221,6 +224,17 @@ fn line(input: &Input) -> Vec<u8> {
     };
     print_fields(input.data(), &mut text);
     text
+}
+
+/// Right lines of each kind, of which each character is replaced by each one but LF; the last line is not ended.
+pub fn characters() -> Vec<u8> {
+    let replaced = |right: &'static [u8], place: usize| {
+        let every = (u8::MIN..=u8::MAX).filter(|character| *character != b'\n');
+        every.map(move |character| [&right[..place], &[character], &right[place + 1..]].concat())
+    };
+    let lines: Vec<Vec<u8>> =
+        RIGHT_LINES.into_iter().flat_map(|right| (0..right.len()).flat_map(move |place| replaced(right, place))).collect();
+    lines.join(&b'\n')
 }
 
 /// The lines of a random script, so many.

@@ -3,6 +3,7 @@
 use crate::board::{ACCESS_BYTE, SECTOR_BITS_BYTES, SECTOR_BITS_FIRST};
 use crate::calls::{can_frame_in_place, uart_byte_in_place, Cause, Taken, ACCEPTED};
 use crate::ends::{Given, Met};
+use crate::frame::FRAME_HEAD_BYTES;
 use crate::hex::{print_fields, read_fields};
 use crate::memories::Store;
 use crate::session::{Session, STAGED_BYTES};
@@ -41,12 +42,13 @@ pub const SPEED: usize = 22;
 pub const STAGED_RULE: usize = 23;
 const STAGED: usize = 25;
 
-/// Where in a line USD byte 0, USD bytes 8 to 11, the UART byte and the frame stand.
+/// Where in a line USD byte 0, USD bytes 8 to 11, the UART byte and the frame with its DLC stand.
 pub const ACCESS: usize = 59;
 pub const SECTOR_BITS: usize = 60;
 pub const BYTE: usize = 69;
 const FRAME_LENGTH: usize = 70;
-const FRAME: usize = 71;
+pub const FRAME: usize = 71;
+pub const DLC: usize = FRAME + FRAME_HEAD_BYTES - 1;
 
 /// One call, as its line says it.
 #[derive(Clone, Debug, PartialEq, Eq)]
@@ -81,6 +83,18 @@ impl Vector {
     /// Puts bytes at a place.
     pub fn put(&mut self, place: usize, bytes: &[u8]) {
         self.bytes[place..][..bytes.len()].copy_from_slice(bytes);
+    }
+
+    /// The same vector with other bytes at a place.
+    pub fn with(&self, place: usize, bytes: &[u8]) -> Vector {
+        let mut other = self.clone();
+        other.put(place, bytes);
+        other
+    }
+
+    /// The byte at a place.
+    pub fn byte_at(&self, place: usize) -> u8 {
+        self.bytes[place]
     }
 
     /// Puts the length of a buffer, its seed and, but for the reply buffer, its stride.
@@ -188,7 +202,7 @@ impl Vector {
     }
 
     /// Tells whether no buffer is over its most, and what the other input would use is 0.
-    fn is_in_order(&self) -> bool {
+    pub fn is_in_order(&self) -> bool {
         let length = usize::from(self.bytes[FRAME_LENGTH]);
         let no_other = if self.given == Given::Frame { self.bytes[BYTE] == 0 } else { length == 0 };
         no_other

@@ -1,17 +1,19 @@
-//! The program `script`: prints a random script for `desk`, or counts what one on standard input reaches.
+//! The program `script`: prints a random script for `desk` or one that tries every character, or counts what one on standard input reaches.
 
 use second::ends::Kind;
-use second::script::{random, reached};
+use second::script::{characters, random, reached};
 use std::env;
 use std::io::{self, Read, Write};
 use std::process::ExitCode;
 
 const USAGE: &str = "script uart|mixed SEED LINES [covered]
 script uart|mixed count [covered]
+script characters
 
 The first prints a script for desk of exactly LINES lines, which SEED determines, and on standard error how often it
 reaches each pair of a step and an end; the second counts the same of a script on standard input. A pair that the
-table does not have gives exit status 1, and with the word covered so does one that was not reached.";
+table does not have gives exit status 1, and with the word covered so does one that was not reached. The last prints
+right lines with each character replaced by each one but LF, the last line without an end.";
 const MISUSED: u8 = 2;
 
 /// The lines of the script on standard input.
@@ -51,6 +53,7 @@ fn main() -> ExitCode {
     let mut words: Vec<&str> = words.iter().map(String::as_str).collect();
     let covered = words.pop_if(|word| *word == "covered").is_some();
     let wanted = match words[..] {
+        ["characters"] if !covered => return ExitCode::from(u8::from(io::stdout().write_all(&characters()).is_err())),
         ["uart", ref words @ ..] => lines(Kind::Uart, words).map(|lines| (Kind::Uart, lines)),
         ["mixed", ref words @ ..] => lines(Kind::Mixed, words).map(|lines| (Kind::Mixed, lines)),
         _ => None,

@@ -2,26 +2,28 @@
 
 use second::ends::Kind;
 use second::reached::Reached;
-use second::vector::{each, run};
+use second::sweep::sweep;
+use second::vector::{each, run, Vector};
 use second::vectors::{random, reached};
 use std::env;
 use std::io::{self, Write};
 use std::process::ExitCode;
 
 const USAGE: &str = "vectors generate SEED COUNT [covered]
+vectors sweep SEED
 vectors run
 vectors count [covered]
 
-The first prints COUNT vectors, which SEED determines, and counts what they reach as script does; the second answers
-the vectors on standard input; the third counts what they reach. A line that is no vector gives exit status 1.";
+The first prints COUNT vectors, which SEED determines, and counts what they reach as script does; the second prints
+vectors of a seed that are obeyed, one for each step, command and effect, and each of them with one thing wrong; the third
+answers the vectors on standard input; the last counts what they reach. A line that is no vector gives exit status 1.";
 const MISUSED: u8 = 2;
 
-/// Prints the vectors of a seed, and tells what they reach.
-fn generate(seed: u64, count: usize) -> io::Result<Reached> {
-    let vectors = random(seed, count);
+/// Prints vectors, and tells what they reach.
+fn print(vectors: &[Vector]) -> io::Result<Reached> {
     let text: Vec<u8> = vectors.iter().flat_map(|vector| vector.line()).collect();
     io::stdout().write_all(&text)?;
-    Ok(reached(&vectors))
+    Ok(reached(vectors))
 }
 
 /// Tells what the vectors on standard input reach.
@@ -39,8 +41,9 @@ fn done(words: &[&str]) -> Option<io::Result<Option<Reached>>> {
     match words {
         ["generate", seed, count] => {
             let (seed, count) = (seed.parse().ok()?, count.parse().ok()?);
-            Some(generate(seed, count).map(Some))
+            Some(print(&random(seed, count)).map(Some))
         }
+        ["sweep", seed] => Some(print(&sweep(seed.parse().ok()?)).map(Some)),
         ["count"] => Some(count().map(Some)),
         ["run"] => Some(run(&mut io::stdin().lock(), &mut io::stdout().lock()).map(|()| None)),
         _ => None,

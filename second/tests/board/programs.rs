@@ -16,8 +16,8 @@ const OTHER_WORDS: [(&str, &str); 5] = [
     (env!("CARGO_BIN_EXE_image"), "|--help|f|f new|f new x|f new 32768|f new -32769|f new 0x10|f new 0 old more"),
     (env!("CARGO_BIN_EXE_images"), "--help|f 0|f 0 32770|f x 0"),
     (env!("CARGO_BIN_EXE_srecords"), "|--help|x|1 x|1 2 more|1 2 covered 3"),
-    (SCRIPT, "|--help|uart|uart 1|uart 1 x|mixed -1 9|mixed 1 9 all|other 1 9"),
-    (VECTORS, "|--help|generate|generate 1|generate 1 x|generate -1 9|run 1"),
+    (SCRIPT, "|--help|uart|uart 1|uart 1 x|mixed -1 9|mixed 1 9 all|other 1 9|characters 1|characters covered"),
+    (VECTORS, "|--help|generate|generate 1|generate 1 x|generate -1 9|sweep|sweep x|run 1"),
 ];
 
 /// Runs a program that needs no file.
