@@ -2,8 +2,9 @@
 //!
 //! A part of a talk begins with the sentence of document 01 that it tries, behind `#`, and a fresh
 //! board, or with `#U` or `#C` and one that is then connected on UART or CAN. `U`, `C` and `P` type a
-//! line of `desk`, and `>` is what that prints. `!` sets memories or the session before. `=` tells what the line has changed: every other byte of the memories must be
-//! as it was, and each call accepted unless `refused` tells its cause. `FF*3` stands for three `FF`.
+//! line of `desk`, and `>` is what that prints. `!` sets memories or the session before. `=` tells what
+//! the line has changed: every other byte of the memories must be as it was, and each call accepted unless
+//! `refused` tells its cause. `FF*3` stands for three `FF`.
 //!
 //!     ! MEMORY FIRST BYTES         flash, sram or usd, from an offset on
 //!     ! session CARRIER STEP TAKEN EXPECTED ADDRESS SPEED [STAGED BYTES]
