@@ -2,6 +2,7 @@
 pub mod code;
 pub mod held;
 pub mod protected;
+pub mod reason;
 
 ghost use mathlib.Core.Path.{_≡_};
 ghost use Rattle.command.specs.Decision.{if_gives_else_, answer, alter, show, nack, judged};

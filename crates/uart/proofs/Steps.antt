@@ -8,7 +8,7 @@ use lib.Dec.{T, eqb, leb, leb→le, eqb→eq}
 use lib.ListN.{length}
 use Rattle.words.specs.Lists.{countFrom}
 use Rattle.words.proofs.Tests.{both-left, both-right}
-use Rattle.uart.specs.Steps.{stepNo, steps, stepOf, expects}
+use Rattle.uart.specs.Steps.{stepNo, steps, stepOf, expects, before}
 use denote.Enum.Declared.{tagOf}
 use Rattle.uart.proofs.Step.{the-type}
 use Rattle.uart.specs.declared.Step.{Step}
@@ -62,6 +62,23 @@ at-most EraseList e t = omega (arith, numbered e t .1)
 at-most ProtectLength e t = omega (arith, eqb→eq e 1 t)
 at-most ProtectList e t = counted e t .1
 at-most CrcCount e t = omega (arith, eqb→eq e 3 t)
+
+-- no step comes behind more than eight bytes of its command
+pub before-few : (s : Step) → before s ≤ 8
+before-few Idle = omega arith
+before-few ReadAddress = omega arith
+before-few JumpAddress = omega arith
+before-few WriteAddress = omega arith
+before-few CrcAddress = omega arith
+before-few ReadLength = omega arith
+before-few WriteLength = omega arith
+before-few WriteData = omega arith
+before-few EraseSelector = omega arith
+before-few SpecialCheck = omega arith
+before-few EraseList = omega arith
+before-few ProtectLength = omega arith
+before-few ProtectList = omega arith
+before-few CrcCount = omega arith
 
 -- a step is declared at its number
 pub declared-at : (s : Step) (n : ℕ) → tagOf the-type s ≡ n → s ≡ stepOf n

@@ -80,3 +80,26 @@ expects EraseList e = leb (expectedForNumbers 1) e && leb e (expectedForNumbers 
 expects ProtectLength e = eqb e oneByte
 expects ProtectList e = leb (expectedFor 1) e && leb e (expectedFor largestCount)
 expects CrcCount e = eqb e checkedCount
+
+-- ---- the place of a step in its command: document 02, Wish 2
+
+-- how many wire bytes of its command come before a step: the command and its complement, an address and its XOR, a count or a selector
+abbrev pub before : Step → ℕ
+before Idle = 0
+before ReadAddress = complementedByte
+before JumpAddress = complementedByte
+before WriteAddress = complementedByte
+before CrcAddress = complementedByte
+before ReadLength = complementedByte + checkedAddress
+before WriteLength = complementedByte + checkedAddress
+before WriteData = complementedByte + checkedAddress + oneByte
+before EraseSelector = complementedByte
+before SpecialCheck = complementedByte + selectorBytes
+before EraseList = complementedByte + selectorBytes
+before ProtectLength = complementedByte
+before ProtectList = complementedByte + oneByte
+before CrcCount = complementedByte + checkedAddress
+
+-- the wire byte of the command, from 1, that is the last of a step which expects so many
+abbrev pub wireByte : Step → ℕ → ℕ
+wireByte s e = before s + e

@@ -3,7 +3,7 @@ pub mod held;
 
 ghost use mathlib.Core.Path.{_≡_};
 ghost use lib.Dec.{leb};
-ghost use Rattle.uart.specs.Steps.{stepNo, stepOf, expects};
+ghost use Rattle.uart.specs.Steps.{stepNo, stepOf, expects, before};
 ghost use Rattle.uart.specs.Conversation.{uartRoom};
 use board::Board;
 use board::LessOne;
@@ -127,6 +127,28 @@ impl Step {
                 & (n <= MOST_NUMBERED)
                 & (n % Sector::NUMBER_BYTES == 1),
             Step::CrcCount => n == CHECKED_COUNT,
+        }
+    }
+
+    // How many wire bytes of its command come before the step.
+    pub fn before(self) -> usize
+        ensures { λ r. ⌜ r ≡ before self ⌝ }
+    {
+        match self {
+            Step::Idle => 0,
+            Step::ReadAddress => COMPLEMENTED_BYTE,
+            Step::JumpAddress => COMPLEMENTED_BYTE,
+            Step::WriteAddress => COMPLEMENTED_BYTE,
+            Step::CrcAddress => COMPLEMENTED_BYTE,
+            Step::ReadLength => COMPLEMENTED_BYTE + CHECKED_ADDRESS,
+            Step::WriteLength => COMPLEMENTED_BYTE + CHECKED_ADDRESS,
+            Step::WriteData => COMPLEMENTED_BYTE + CHECKED_ADDRESS + ONE_BYTE,
+            Step::EraseSelector => COMPLEMENTED_BYTE,
+            Step::SpecialCheck => COMPLEMENTED_BYTE + SELECTOR_BYTES,
+            Step::EraseList => COMPLEMENTED_BYTE + SELECTOR_BYTES,
+            Step::ProtectLength => COMPLEMENTED_BYTE,
+            Step::ProtectList => COMPLEMENTED_BYTE + ONE_BYTE,
+            Step::CrcCount => COMPLEMENTED_BYTE + CHECKED_ADDRESS,
         }
     }
 }
