@@ -1,4 +1,4 @@
-// Prints bytes, frames and numbers.
+// Prints bytes, frames, numbers and texts.
 ghost use mathlib.Core.Path.{_≡_};
 ghost use mathlib.Core.List.{_∷_};
 ghost use Prim.Native.Nat.{_+_, _*_, _%_, _≤_, _<_};
@@ -6,6 +6,7 @@ ghost use lib.ListN.{length, take};
 ghost use Rattle.words.specs.Hex.{space, fieldCharacters};
 ghost use Rattle.words.specs.Over.{put};
 ghost use Rattle.frames.specs.Frames.{classic, frameBytes, frameIn};
+ghost use Rattle.desk_print.specs.Adds.{Adds};
 ghost use Rattle.desk_print.specs.Digits.{digitOf, digitsOf, decimal};
 ghost use Rattle.desk_print.specs.Prints.{spelled, unspaced, spelledFrame, spelledFrames, numberRoom};
 use words::FIELD;
@@ -59,6 +60,16 @@ pub fn number(n: u64, out: &mut [u8], at: usize) -> usize
     let k = io::decimal(n, &mut text);
     words::copy(out, at, &text[..k], 0, k);
     at + k
+}
+
+// Adds characters at a place, and tells where they end.
+pub fn add(text: &[u8], out: &mut [u8], at: usize) -> usize
+    requires { ⌜ at + length (now text) ≤ length (now out) ⌝ }
+    ensures { λ r. ⌜ Adds (now (out .entry)) at r (now (out .exit)) (now (text .entry)) ⌝ }
+{
+    let n = text.len();
+    words::copy(out, at, text, 0, n);
+    at + n
 }
 
 // Prints bytes in hex, unspaced, and tells where they end.

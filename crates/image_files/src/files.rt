@@ -2,7 +2,6 @@
 ghost use Prim.Native.Nat.{_+_, _≤_};
 ghost use lib.ListN.{length};
 ghost use Rattle.io.specs.Counts.{Counts};
-use image_says::text;
 use libc::STDERR_FILENO;
 
 // How many characters an S-record file has at most.
@@ -91,10 +90,10 @@ fn part_name(name: &[u8], out: &mut [u8]) -> usize
     requires { ⌜ length (now name) + 64 ≤ length (now out) ⌝ }
     ensures { λ r. ⌜ Counts r (now (out .exit)) ⌝ }
 {
-    let begun = text::add(name, out, 0);
-    let dot = text::add(b".", out, begun);
+    let begun = desk_print::add(name, out, 0);
+    let dot = desk_print::add(b".", out, begun);
     let number = desk_print::number(process(), out, dot);
-    text::add(b".part", out, number)
+    desk_print::add(b".part", out, number)
 }
 
 // Writes bytes to a file, and waits until they have reached it.

@@ -1,3 +1,3 @@
-pub mod Adding
+pub mod Refused
 pub mod Marked
 pub mod Numbered

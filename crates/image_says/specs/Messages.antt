@@ -1,13 +1,11 @@
 -- What is said of a file: how much it loads, or where and why it is refused, in the way of compilers.
-use mathlib.Core.Path.{_≡_}
-use Prim.Native.Nat.{ℕ, _+_, _-_}
+use Prim.Native.Nat.{ℕ, _-_}
 use mathlib.Core.Bool.{Bool, _||_}
 use mathlib.Core.List.{List, [], _∷_, _++_}
 use lib.Dec.{eqb}
 use lib.IntN.{ℤ}
-use lib.ListN.{length, getD}
+use lib.ListN.{getD}
 use Rattle.words.specs.Choice.{if_then_else_}
-use Rattle.words.specs.Over.{put}
 use Rattle.desk_print.specs.Digits.{decimal}
 use Rattle.records.specs.Ends.{lineFeed, linesOf}
 use Rattle.records.specs.Records.{digit, typeIn}
@@ -18,11 +16,6 @@ use Rattle.loading.specs.declared.Loaded.{Loaded}
 use Rattle.image_says.specs.Tally.{tallyOf}
 use Rattle.words.specs.Texts.{characters}
 use Rattle.image_says.specs.declared.Tally.{Tally}
-
--- a text is added to a buffer at a place: where it ends, and every byte of the buffer
-pub record Adds (before : List ℕ) (at end : ℕ) (after text : List ℕ) : Type 0 where
-  pub ends : end ≡ at + length text
-  pub written : after ≡ put before at text
 
 -- so many things, by their name, which has an s unless there is one
 abbrev pub counted : ℕ → List ℕ → List ℕ

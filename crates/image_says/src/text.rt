@@ -2,23 +2,15 @@
 ghost use mathlib.Core.Path.{_≡_};
 ghost use Prim.Native.Nat.{_+_, _≤_};
 ghost use lib.ListN.{length};
-ghost use Rattle.image_says.specs.Messages.{Adds, counted, said, named, message, isShort, lineNumbered};
+ghost use Rattle.image_says.specs.Messages.{counted, said, named, message, isShort, lineNumbered};
 ghost use Rattle.words.specs.Texts.{characters};
+ghost use Rattle.desk_print.specs.Adds.{Adds};
 ghost use Rattle.image_says.specs.Messages.{amount as Messages·amount, outside as Messages·outside};
 use crate::Tally;
+use desk_print::add;
 use loading::Cause;
 use loading::Loaded;
 use records::ends;
-
-// Adds characters at a place, and tells where they end.
-pub fn add(text: &[u8], out: &mut [u8], at: usize) -> usize
-    requires { ⌜ at + length (now text) ≤ length (now out) ⌝ }
-    ensures { λ r. ⌜ Adds (now (out .entry)) at r (now (out .exit)) (now (text .entry)) ⌝ }
-{
-    let n = text.len();
-    words::copy(out, at, text, 0, n);
-    at + n
-}
 
 // Adds so many things by their name.
 fn counted(n: usize, thing: &[u8], out: &mut [u8], at: usize) -> usize

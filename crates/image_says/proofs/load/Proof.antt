@@ -13,7 +13,7 @@ use Rattle.records.specs.Ends.{linesOf}
 use Rattle.loading.specs.Loads.{untouched, allTouched}
 use Rattle.image_says.specs.Tally.{tallyOf}
 use Rattle.image_says.specs.Messages.{message, messageTo}
-use Rattle.image_says.proofs.Adding.{same-message}
+use Rattle.image_says.proofs.Refused.{same-message}
 use Rattle.image_says.proofs.load.Statement.{statement}
 use Rattle.image_says.proofs.load.Tie as tie
 

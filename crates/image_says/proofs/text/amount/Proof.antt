@@ -1,7 +1,7 @@
 -- Bytes and sectors, counted one behind the other.
 use borrow.Author.Needs.{needs}
 use native.Mathlib.Omega.{arith}
-use Rattle.image_says.proofs.Adding.{then}
+use Rattle.desk_print.proofs.Adding.{then}
 use Rattle.image_says.proofs.text.amount.Statement.{statement}
 use Rattle.image_says.proofs.text.amount.Tie as tie
 

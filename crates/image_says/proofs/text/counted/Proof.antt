@@ -3,7 +3,7 @@ use borrow.Author.Needs.{needs}
 use native.Mathlib.Omega.{arith}
 use mathlib.Core.Path.{refl}
 use borrow.Author.Tests.{eq-eqb, ne-eqb}
-use Rattle.image_says.proofs.Adding.{then, nothing}
+use Rattle.desk_print.proofs.Adding.{then, nothing}
 use Rattle.image_says.proofs.text.counted.Statement.{statement}
 use Rattle.image_says.proofs.text.counted.Tie as tie
 

@@ -1,7 +1,7 @@
 -- Name, colon, what is said and the line's end stand one behind the other.
 use borrow.Author.Needs.{needs}
 use native.Mathlib.Omega.{arith}
-use Rattle.image_says.proofs.Adding.{then}
+use Rattle.desk_print.proofs.Adding.{then}
 use Rattle.image_says.specs.Messages.{message}
 use Rattle.image_says.proofs.text.message.Statement.{statement}
 use Rattle.image_says.proofs.text.message.Tie as tie

@@ -2,7 +2,7 @@
 use borrow.Author.Needs.{needs}
 use native.Mathlib.Omega.{arith}
 use borrow.Author.Tests.{not-true, not-false}
-use Rattle.image_says.proofs.Adding.{then, nothing}
+use Rattle.desk_print.proofs.Adding.{then, nothing}
 use Rattle.image_says.proofs.text.outside.Statement.{statement}
 use Rattle.image_says.proofs.text.outside.Tie as tie
 

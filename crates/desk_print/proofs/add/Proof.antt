@@ -7,8 +7,8 @@ use Prim.Native.Nat.{ℕ}
 use lib.ListN.{length}
 use lib.Seq.{take-all}
 use Rattle.words.specs.Over.{put}
-use Rattle.image_says.proofs.text.add.Statement.{statement}
-use Rattle.image_says.proofs.text.add.Tie as tie
+use Rattle.desk_print.proofs.add.Statement.{statement}
+use Rattle.desk_print.proofs.add.Tie as tie
 
 returns : tie.Need-returns
 returns c =
