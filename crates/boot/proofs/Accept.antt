@@ -10,12 +10,13 @@ use Rattle.memories.specs.Memories.{Memories}
 use Rattle.memories.specs.Effects.{effect}
 use Rattle.command.specs.Progress.{progressAt, stagedWith}
 use Rattle.command.specs.Says.{says, Said}
+use Rattle.command.specs.Why.{reasonOf}
 use Rattle.command.specs.declared.Decision.{Decision}
 use Rattle.can.specs.Steps as C
 use Rattle.can.specs.Conversation as CC
 use Rattle.frames.specs.Frames.{classic, frameIn, frameOf, isFrame, carried, framed}
 use Rattle.frames.proofs.Frames.{carried-length}
-use Rattle.boot.specs.Session.{progress, gathered, after}
+use Rattle.boot.specs.Session.{progress, gathered, after, fallsAt, placed}
 use Rattle.boot.specs.Decide.{connected, decideFrame}
 use Rattle.boot.specs.Calls.{State, Input, carrierOf, brings, viewIn, commandsOf, decide, sent, perform}
 use Rattle.boot.specs.Promise.{left, acceptedTaken, Leaves}
@@ -36,12 +37,15 @@ module _ (i : Input) (p : State) (view : View) (ev : view ≡ viewIn p) (t : Ses
   pub input-leaves : {count : ℕ} {r : Taken} {m : Memories} {buffer' : List ℕ}
       → Said (said d) count buffer buffer'
       → m ≡ effect (d .change) (t .staged) (p .memories)
-      → r ≡ acceptedTaken (carrierOf i) (p .session) t (d .next) count
+      → r ≡ acceptedTaken (carrierOf i) (p .session) t d count
       → Leaves (perform i p (decide i (p .session) (viewIn p))) buffer (left r m buffer')
   unfolding perform
   input-leaves {m = m} es em er = record {
     number = ap (λ (z : Taken). z .number) er;
     count = ap (λ (z : Taken). z .length) er ∙ es .count ∙ ap (λ (e : Decision). length (said e)) decided;
+    reason = ap (λ (z : Taken). z .reason) er ∙ ap (λ (e : Decision). reasonOf (e .reply)) decided;
+    place = ap (λ (z : Taken). z .place) er
+        ∙ ap (λ (e : Decision). placed (reasonOf (e .reply)) (fallsAt (carrierOf i) (p .session))) decided;
     session =
         ap (λ (z : Taken). z .session) er ∙ ap (λ (z : Session). after (carrierOf i) z (d .next) (p .session)) et
         ∙ ap (λ (e : Decision). after (carrierOf i) (gathered (brings i) (p .session)) (e .next) (p .session)) decided;

@@ -76,6 +76,8 @@ module _ (g : Given) (c : Cause) (ec : c ≡ causeFor (g .input) (g .state)) whe
       (record {
         number = ap (λ (z : Taken). z .number) e;
         count = ap (λ (z : Taken). z .length) e;
+        reason = ap (λ (z : Taken). z .reason) e;
+        place = ap (λ (z : Taken). z .place) e;
         session = ap (λ (z : Taken). z .session) e;
         flash = refl;
         sram = refl;

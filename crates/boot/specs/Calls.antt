@@ -12,6 +12,7 @@ use Rattle.memories.specs.Effects.{effect}
 use Rattle.command.specs.Decision.{if_gives_else_, answer}
 use Rattle.command.specs.Progress.{stagedWith}
 use Rattle.command.specs.Says.{says}
+use Rattle.command.specs.Why.{noReason, reasonOf}
 use Rattle.command.specs.declared.Decision.{Decision}
 use Rattle.command.specs.declared.Next.the-variants.{Stay, Reset}
 use Rattle.command.specs.declared.FixedReply.the-variants.{Silence}
@@ -19,7 +20,7 @@ use Rattle.uart.specs.Conversation as UC
 use Rattle.can.specs.Steps as C
 use Rattle.can.specs.Conversation as CC
 use Rattle.frames.specs.Frames.{classic, frameIn, carried, isFrame, framed}
-use Rattle.boot.specs.Session.{fresh, on, progress, gathered, after}
+use Rattle.boot.specs.Session.{fresh, on, progress, gathered, after, fallsAt, placed}
 use Rattle.boot.specs.Decide.{decideByte, decideFrame}
 use Rattle.boot.specs.Causes.{causeOf, accepts}
 use Rattle.carriers.specs.declared.Carrier.{Carrier}
@@ -43,10 +44,12 @@ pub data Input : Type 0 where
   Byte : ℕ → ℕ → Input
   Framed : ℕ → List ℕ → Input
 
--- what a call gives back and leaves
+-- what a call gives back and leaves: beside the reply the reason of a NACK in it and the place where it fell
 pub record Outcome : Type 0 where
   pub cause : Cause
   pub reply : List ℕ
+  pub reason : ℕ
+  pub place : ℕ
   pub state : State
 
 -- the carrier that an input comes on
@@ -98,15 +101,17 @@ unfoldable pub perform : Input → State → Decision → Outcome
 perform i p d = record {
   cause = Accepted;
   reply = sent i (p .session) (says (commandsOf i) (d .reply) (p .memories));
+  reason = reasonOf (d .reply);
+  place = placed (reasonOf (d .reply)) (fallsAt (carrierOf i) (p .session));
   state = record {
     session = after (carrierOf i) (gathered (brings i) (p .session)) (d .next) (p .session);
     memories = effect (d .change) (stagedWith (progress (p .session)) (brings i)) (p .memories);
   };
 }
 
--- a refused call gives no reply, and leaves everything as it was
+-- a refused call gives no reply and no reason, and leaves everything as it was
 abbrev pub refused : Cause → State → Outcome
-refused c p = record { cause = c; reply = []; state = p }
+refused c p = record { cause = c; reply = []; reason = noReason; place = 0; state = p }
 
 -- one call
 unfoldable pub call : Input → State → Outcome

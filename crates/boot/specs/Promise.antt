@@ -4,7 +4,8 @@ use mathlib.Core.Path.{_≡_}
 use mathlib.Core.List.{List, _++_}
 use lib.ListN.{length, drop}
 use Rattle.memories.specs.Memories.{Memories}
-use Rattle.command.specs.declared.Next.{Next}
+use Rattle.command.specs.Why.{noReason, reasonOf}
+use Rattle.command.specs.declared.Decision.{Decision}
 use Rattle.boot.specs.Session as S
 use Rattle.boot.specs.Session.{fresh}
 use Rattle.boot.specs.Causes.{causeNo}
@@ -60,18 +61,26 @@ givenFrame s frame m buffer = record {
 unfoldable pub outcome : Given → Outcome
 outcome g = call (g .input) (g .state)
 
--- what an accepted call hands back: the carrier, the session, the session with the input's bytes, what comes next, the reply's length
-abbrev pub acceptedTaken : Carrier → Session → Session → Next → ℕ → Taken
-acceptedTaken c s t next n = record { number = causeNo Accepted; length = n; session = S.after c t next s }
+-- what an accepted call hands back: the carrier, the session, the session with the input's bytes, what was decided, the reply's length
+abbrev pub acceptedTaken : Carrier → Session → Session → Decision → ℕ → Taken
+acceptedTaken c s t d n = record {
+  number = causeNo Accepted;
+  length = n;
+  reason = reasonOf (d .reply);
+  place = S.placed (reasonOf (d .reply)) (S.fallsAt c s);
+  session = S.after c t (d .next) s;
+}
 
 -- what a refused call hands back
 abbrev pub refusedTaken : Cause → Session → Taken
-refusedTaken c s = record { number = causeNo c; length = 0; session = s }
+refusedTaken c s = record { number = causeNo c; length = 0; reason = noReason; place = 0; session = s }
 
 -- what is left is what an outcome says, part by part; the reply buffer beyond the reply is unchanged
 pub record Leaves (o : Outcome) (lent : List ℕ) (l : Left) : Type 0 where
   pub number : l .result .number ≡ causeNo (o .cause)
   pub count : l .result .length ≡ length (o .reply)
+  pub reason : l .result .reason ≡ o .reason
+  pub place : l .result .place ≡ o .place
   pub session : l .result .session ≡ o .state .session
   pub flash : l .flash ≡ o .state .memories .flash
   pub sram : l .sram ≡ o .state .memories .sram

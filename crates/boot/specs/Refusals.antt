@@ -34,9 +34,11 @@ pub record FirstCauses : Type 0 where
       else if eqb (p .session .carrier) 3 then 5
       else 0)
 
--- length 0, session and all buffers unchanged
+-- length 0, no reason and no place, session and all buffers unchanged
 pub record Unchanged (g : Given) (l : Left) : Type 0 where
   pub count : l .result .length ≡ 0
+  pub reason : l .result .reason ≡ 0
+  pub place : l .result .place ≡ 0
   pub session : l .result .session ≡ g .state .session
   pub flash : l .flash ≡ g .state .memories .flash
   pub sram : l .sram ≡ g .state .memories .sram

@@ -4,14 +4,17 @@ use mathlib.Core.Bool.{Bool, _&&_}
 use mathlib.Core.List.{List}
 use lib.ListN.{length}
 use lib.Dec.{eqb, leb, ltb}
+use Rattle.words.specs.Choice.{if_then_else_}
 use Rattle.memories.specs.Effects.{noBytes}
 use Rattle.command.specs.Progress.{Progress, progressAt, fitting, stagedWith}
 use Rattle.command.specs.declared.Next.{Next}
 use Rattle.command.specs.declared.Next.the-variants.{Stay, Reset, Gather, GoIdle, SetSpeed, Enter, EnterAt, Run}
+use Rattle.command.specs.Why.{noReason}
+use Rattle.uart.specs.Steps.{stepOf, wireByte}
 use Rattle.can.specs.Conversation.{largestSpeed}
 use Rattle.carriers.specs.Carriers.{carrierNo, resting, idleExpects, stepSound}
 use Rattle.carriers.specs.declared.Carrier.{Carrier}
-use Rattle.carriers.specs.declared.Carrier.the-variants.{None, Running}
+use Rattle.carriers.specs.declared.Carrier.the-variants.{None, Uart, Can, Running}
 use Rattle.boot.specs.declared.Session.{Session}
 
 -- a session is on a carrier
@@ -100,3 +103,16 @@ after c held (SetSpeed v) s = idle c (atSpeed v s)
 after c held (Enter step e) s = entered c step e (s .address) s
 after c held (EnterAt step e a) s = entered c step e a s
 after c held (Run a) s = running a s
+
+-- ---- where a NACK falls: document 02, Wish 2
+
+-- on UART the wire byte of the command, from 1, whose coming brings it; on CAN the count of bytes gathered before that frame
+unfoldable pub fallsAt : Carrier → Session → ℕ
+fallsAt None s = 0
+fallsAt Uart s = wireByte (stepOf (s .step)) (s .expected)
+fallsAt Can s = s .taken
+fallsAt Running s = 0
+
+-- a place is told with a reason, and is 0 where there is no NACK
+abbrev pub placed : ℕ → ℕ → ℕ
+placed reason at = if eqb reason noReason then 0 else at

@@ -1,6 +1,7 @@
 // The calls of the board: its session, the causes of a refusal, and what a call hands back.
 pub mod decide;
 pub mod held;
+pub mod place;
 pub mod steps;
 pub mod take;
 
@@ -28,10 +29,12 @@ pub struct Session {
     pub staged: [u8; memories::STAGED],
 }
 
-// What a call hands back: the cause's number, the length of the reply, the next session.
+// What a call hands back: the cause's number, the length of the reply, the reason of a NACK in it and the place where it fell, the next session.
 pub struct Taken {
     pub number: u8,
     pub length: usize,
+    pub reason: u8,
+    pub place: u16,
     pub session: Session,
 }
 

@@ -1,7 +1,7 @@
 // The two calls that take input: refused for the first cause that holds, or decided, said and carried out.
 ghost use mathlib.Core.Path.{_≡_};
 ghost use mathlib.Core.Bool.{true};
-ghost use lib.Dec.{leb};
+ghost use lib.Dec.{T, leb};
 ghost use lib.ListN.{length};
 ghost use Rattle.memories.specs.Lent.{were, are};
 ghost use Rattle.memories.specs.Memories.{lengthsRight};
@@ -19,6 +19,7 @@ use board::Board;
 use board::View;
 use carriers::Carrier;
 use command::Decision;
+use command::reason::NO_REASON;
 
 // Whether flash, SRAM and USD have their lengths.
 pub fn lengths_right(flash: usize, sram: usize, usd: usize) -> bool
@@ -97,6 +98,8 @@ impl Session {
         Taken {
             number: cause.number(),
             length: 0,
+            reason: NO_REASON,
+            place: 0,
             session: self,
         }
     }
@@ -109,14 +112,19 @@ impl Session {
         if here { can::bears(self.step, id) } else { id }
     }
 
-    // An accepted call tells how long its reply is, and hands back the session that follows.
+    // An accepted call tells how long its reply is, why and where it was refused, and hands back the session that follows.
     fn accepted(self, carrier: Carrier, taken: Session, decision: Decision, length: usize) -> Taken
-        ensures { λ r. ⌜ r ≡ acceptedTaken carrier self taken (decision .next) length ⌝ }
+        requires { ⌜ T (sound self) ⌝ }
+        ensures { λ r. ⌜ r ≡ acceptedTaken carrier self taken decision length ⌝ }
     {
         let next = decision.next;
+        let reply = decision.reply;
+        let reason = reply.reason();
         Taken {
             number: Cause::Accepted.number(),
             length: length,
+            reason: reason,
+            place: self.place(carrier, reason),
             session: self.after(carrier, taken, next),
         }
     }

@@ -73,9 +73,19 @@ module _ (g : Given) (lent : List ℕ) (held : g .state .session ≡ sessionIn l
       (sym (outcome-cause g) ∙ accepts-number (outcome g .cause) ∙ ap (λ (n : ℕ). eqb n 0) (sym (t .number) ∙ z))))
 
   -- with the session handed on, that is what the exported call promises
-  pub handed-on : {after : List ℕ} → HandsOn r lent after → Takes g lent (r .number) (r .length) after m buffer
+  pub handed-on : {after : List ℕ} → HandsOn r lent after → Takes g lent (r .number) (r .length) (r .reason) (r .place) after m buffer
   handed-on {after} h = record {
-    took = record { number = t .number; count = t .count; session = refl; flash = t .flash; sram = t .sram; usd = t .usd; buffer = t .buffer };
+    took = record {
+      number = t .number;
+      count = t .count;
+      reason = t .reason;
+      place = t .place;
+      session = refl;
+      flash = t .flash;
+      sram = t .sram;
+      usd = t .usd;
+      buffer = t .buffer;
+    };
     session =
         h .session ∙ ap (λ (n : ℕ). if eqb n 0 then sessionBytes (r .session) else lent) (t .number)
         ∙ ap (λ (s : Session). if eqb (causeNo (outcome g .cause)) 0 then sessionBytes s else lent) (t .session)

@@ -10,6 +10,7 @@ use Rattle.boot.specs.Promise.{Given, left, outcome, Took}
 use Rattle.boot.specs.declared.Cause.{Cause}
 use Rattle.boot.specs.declared.Cause.the-variants.{Accepted, UnsoundSession}
 use Rattle.boot.specs.declared.Session.{Session}
+use Rattle.boot.specs.declared.Taken.{Taken}
 use Rattle.session_bytes.specs.Sessions.{sessionBytes, holdsSession, sessionIn}
 
 -- the slice of a session after a call: the next session where it was accepted, and else what was lent
@@ -25,8 +26,12 @@ pub record PowersOn (lent : List ℕ) (n : ℕ) (after : List ℕ) : Type 0 wher
   pub number : n ≡ causeNo (powerCause lent)
   pub session : after ≡ handedOn (powerCause lent) fresh lent
 
--- a taking call leaves what the board's own call does, of whose result the session stands in the slice
-pub record Takes (g : Given) (lent : List ℕ) (n count : ℕ) (after : List ℕ) (m : Memories) (buffer : List ℕ) : Type 0 where
-  pub took : Took g (left (record { number = n; length = count; session = outcome g .state .session }) m buffer)
+-- what the board's own call hands back, whose session stands in the slice
+abbrev pub result : ℕ → ℕ → ℕ → ℕ → Session → Taken
+result number length reason place s = record { number = number; length = length; reason = reason; place = place; session = s }
+
+-- a taking call leaves what the board's own call does
+pub record Takes (g : Given) (lent : List ℕ) (number length reason place : ℕ) (after : List ℕ) (m : Memories) (buffer : List ℕ) : Type 0 where
+  pub took : Took g (left (result number length reason place (outcome g .state .session)) m buffer)
   pub session : after ≡ handedOn (outcome g .cause) (outcome g .state .session) lent
   pub held : sessionIn after ≡ outcome g .state .session

@@ -27,12 +27,17 @@ pub extern "C" fn oilthicket_take_byte(
     usd: &mut [u8],
     buffer: &mut [u8],
     length: &mut usize,
+    reason: &mut u8,
+    place: &mut u16,
 ) -> u8
     ensures { λ r. ⌜ Takes (givenByte (sessionIn (now (session .entry))) byte (were flash sram usd) (now (buffer .entry)))
-        (now (session .entry)) r (now (length .exit)) (now (session .exit)) (are flash sram usd) (now (buffer .exit)) ⌝ }
+        (now (session .entry)) r (now (length .exit)) (now (reason .exit)) (now (place .exit)) (now (session .exit)) (are flash sram usd)
+        (now (buffer .exit)) ⌝ }
 {
     let taken = session_bytes::read(session).take_byte(byte, flash, sram, usd, buffer);
     *length = taken.length;
+    *reason = taken.reason;
+    *place = taken.place;
     session_bytes::hand_on(taken, session)
 }
 
@@ -46,11 +51,16 @@ pub extern "C" fn oilthicket_take_frame(
     usd: &mut [u8],
     buffer: &mut [u8],
     length: &mut usize,
+    reason: &mut u8,
+    place: &mut u16,
 ) -> u8
     ensures { λ r. ⌜ Takes (givenFrame (sessionIn (now (session .entry))) (now (frame .entry)) (were flash sram usd) (now (buffer .entry)))
-        (now (session .entry)) r (now (length .exit)) (now (session .exit)) (are flash sram usd) (now (buffer .exit)) ⌝ }
+        (now (session .entry)) r (now (length .exit)) (now (reason .exit)) (now (place .exit)) (now (session .exit)) (are flash sram usd)
+        (now (buffer .exit)) ⌝ }
 {
     let taken = session_bytes::read(session).take_frame(frame, flash, sram, usd, buffer);
     *length = taken.length;
+    *reason = taken.reason;
+    *place = taken.place;
     session_bytes::hand_on(taken, session)
 }

@@ -18,6 +18,7 @@ use Rattle.command.specs.Commands.{code}
 use Rattle.command.specs.Decision.{if_gives_else_, answer}
 use Rattle.command.specs.Progress.{Progress}
 use Rattle.command.specs.Says.{says}
+use Rattle.command.specs.Why.{noReason}
 use Rattle.command.specs.declared.Command.{Command}
 use Rattle.command.specs.declared.Command.the-variants.{WriteMemory, Erase, ProgramProtect}
 use Rattle.command.specs.declared.Decision.{Decision}
@@ -46,6 +47,8 @@ abbrev pub onlyGathered : List ℕ → State → Outcome
 onlyGathered new p = record {
   cause = Accepted;
   reply = [];
+  reason = noReason;
+  place = 0;
   state = record { session = gathered new (p .session); memories = p .memories };
 }
 

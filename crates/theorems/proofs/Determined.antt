@@ -11,6 +11,8 @@ took-once g l k p q = λ i. record {
   result = record {
     number = (p .number ∙ sym (q .number)) i;
     length = (p .count ∙ sym (q .count)) i;
+    reason = (p .reason ∙ sym (q .reason)) i;
+    place = (p .place ∙ sym (q .place)) i;
     session = (p .session ∙ sym (q .session)) i;
   };
   flash = (p .flash ∙ sym (q .flash)) i;
@@ -26,6 +28,8 @@ hands-once g lent l k p q =
     λ i. record {
       number = e i .result .number;
       length = e i .result .length;
+      reason = e i .result .reason;
+      place = e i .result .place;
       session = (p .session ∙ sym (q .session)) i;
       memories = record { flash = e i .flash; sram = e i .sram; usd = e i .usd };
       buffer = e i .buffer;

@@ -24,7 +24,7 @@ use Rattle.theorems.proofs.Wire.{number-accepts}
 -- what an outcome leaves is fixed part by part
 left-once : (o : Outcome) (before : List ℕ) (l : Left) → Leaves o before l → l ≡ leftBy o before
 left-once o before l k = λ i. record {
-  result = record { number = k .number i; length = k .count i; session = k .session i };
+  result = record { number = k .number i; length = k .count i; reason = k .reason i; place = k .place i; session = k .session i };
   flash = k .flash i;
   sram = k .sram i;
   usd = k .usd i;
@@ -32,7 +32,7 @@ left-once o before l k = λ i. record {
 }
 
 leaves-itself : {o : Outcome} {before : List ℕ} → Leaves o before (leftBy o before)
-leaves-itself = record { number = refl; count = refl; session = refl; flash = refl; sram = refl; usd = refl; buffer = refl }
+leaves-itself = record { number = refl; count = refl; reason = refl; place = refl; session = refl; flash = refl; sram = refl; usd = refl; buffer = refl }
 
 -- what power on leaves
 on-once : (p : State) → leftOn fresh p ≡ leaves PowerOn p

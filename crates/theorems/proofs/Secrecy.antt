@@ -17,13 +17,14 @@ use Rattle.memories.specs.declared.Change.the-variants.{Nothing, Write, EraseAl
 use Rattle.command.specs.Decision.{if_gives_else_}
 use Rattle.command.specs.Progress.{stagedWith}
 use Rattle.command.specs.Says.{says, fixed}
+use Rattle.command.specs.Why.{reasonOf}
 use Rattle.command.specs.declared.Decision.{Decision}
 use Rattle.command.specs.declared.Reply.{Reply}
 use Rattle.command.specs.declared.Reply.the-variants.{Fixed, Data, Crc}
 use Rattle.frames.specs.Frames.{classic, isFrame}
 use Rattle.uart.specs.Conversation.{uartRoom}
 use Rattle.can.specs.Conversation.{canRoom}
-use Rattle.boot.specs.Session.{after, progress, gathered}
+use Rattle.boot.specs.Session.{after, progress, gathered, fallsAt, placed}
 use Rattle.boot.specs.Causes.{causeNo, causeOf, accepts}
 use Rattle.boot.specs.Calls.{done, State, powered, Input, Power, Byte, Framed, Outcome, carrierOf, brings, commandsOf, viewIn, causeFor, decide, sent}
 use Rattle.boot.specs.Calls.{perform, refused, call, run}
@@ -128,6 +129,8 @@ abbrev seenBy : Input → List ℕ → Outcome → Decision → Seen
 seenBy i before o e = record {
   number = causeNo (o .cause);
   length = length (o .reply);
+  reason = o .reason;
+  place = o .place;
   session = o .state .session;
   usd = o .state .memories .usd;
   buffer = veiled i (sums (e .reply)) (filled before (o .reply));
@@ -170,6 +173,17 @@ module _ (i : Input) (c : Cause) (d : Decision) (f : Discreet (carrierOf i) d) w
     causes-of-alike true = refl
     causes-of-alike false = refl
 
+    -- of an accepted call the decision tells the reason, and the session the place
+    reasons-alike : (t : Bool) → callBy i p t c d .reason ≡ callBy i q t c d .reason
+    unfolding perform
+    reasons-alike true = refl
+    reasons-alike false = refl
+
+    places-alike : (t : Bool) → callBy i p t c d .place ≡ callBy i q t c d .place
+    unfolding perform
+    places-alike true = ap (λ (s : Session). placed (reasonOf (d .reply)) (fallsAt (carrierOf i) s)) (w .session)
+    places-alike false = refl
+
     sessions-alike : (t : Bool) → callBy i p t c d .state .session ≡ callBy i q t c d .state .session
     unfolding perform
     sessions-alike true = ap (λ (s : Session). after (carrierOf i) (gathered (brings i) s) (d .next) s) (w .session)
@@ -181,6 +195,8 @@ module _ (i : Input) (c : Cause) (d : Decision) (f : Discreet (carrierOf i) d) w
     seen-alike t before k = λ j. record {
       number = causeNo (causes-of-alike t j);
       length = lengths-alike t j;
+      reason = reasons-alike t j;
+      place = places-alike t j;
       session = sessions-alike t j;
       usd = (ap (λ (m : Memories). m .usd) (keeps p t k) ∙ w .usd ∙ sym (ap (λ (m : Memories). m .usd) (keeps q t k))) j;
       buffer = buffers-alike t before j;
@@ -193,6 +209,8 @@ module _ (i : Input) (c : Cause) (d : Decision) (f : Discreet (carrierOf i) d) w
       cause = Accepted;
       reply = (ap (λ (s : Session). sent i s (says (commandsOf i) (d .reply) (p .memories))) (w .session)
           ∙ ap (sent i (q .session)) (says-alike (commandsOf i) (d .reply) (f .fixed o) (p .memories) (q .memories))) j;
+      reason = reasonOf (d .reply);
+      place = placed (reasonOf (d .reply)) (fallsAt (carrierOf i) (w .session j));
       state = record {
         session = after (carrierOf i) (gathered (brings i) (w .session j)) (d .next) (w .session j);
         memories = (ap (λ (s : Session). effect (d .change) (stagedWith (progress s) (brings i)) (p .memories)) (w .session)
@@ -272,6 +290,8 @@ seen-decided : (c : Call) (p : State) → seen c (p .session) (leaves c p) ≡ s
 seen-decided c p = λ j. record {
   number = causeNo (call (input c) p .cause);
   length = length (call (input c) p .reply);
+  reason = call (input c) p .reason;
+  place = call (input c) p .place;
   session = call (input c) p .state .session;
   usd = call (input c) p .state .memories .usd;
   buffer = veiled (input c) (same j) (filled (lent c) (call (input c) p .reply));

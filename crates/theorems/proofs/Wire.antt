@@ -1,6 +1,6 @@
 -- What a host sees tells what was decided. A CRC value, bytes that are read, and an ACK with a NACK behind it are each the answer to one command alone,
 -- and every other reply is known by its bytes; a Firmware CRC is answered with its value or with a NACK.
-use mathlib.Core.Path.{_≡_, refl, sym, ap₂, _∙_, subst}
+use mathlib.Core.Path.{_≡_, refl, sym, ap, ap₂, _∙_, subst}
 use mathlib.Core.Bool.{Bool, true, false, not, _&&_, _||_, and-false, or-comm}
 use mathlib.Core.List.{List, [], _∷_}
 use Prim.Native.Nat.{ℕ}
@@ -16,6 +16,7 @@ use Rattle.command.specs.Commands.{canCommands, lookUp}
 use Rattle.command.specs.Decision.{if_gives_else_, answer, nack}
 use Rattle.command.specs.Progress.{Progress, short}
 use Rattle.command.specs.Says.{says}
+use Rattle.command.specs.Why.{reason, noReason, reasonOf}
 use Rattle.command.specs.declared.Command.the-variants.{FirmwareCrc}
 use Rattle.command.specs.declared.Decision.{Decision}
 use Rattle.command.specs.declared.Lookup.the-variants.{Known}
@@ -25,6 +26,8 @@ use Rattle.command.specs.declared.Reply.the-variants.{Fixed, Data, Crc}
 use Rattle.command.specs.declared.FixedReply.{FixedReply}
 use Rattle.command.specs.declared.FixedReply.the-variants.{Silence, Ack, AckAck, Nack, AckNack, Commands, Version, DeviceId}
 use Rattle.command.specs.declared.Why.{Why}
+use Rattle.command.specs.declared.Why.the-variants.{BadComplement, UnknownCommand, AccessProtected, OtherFrame, BadChecksum, BadAddress}
+use Rattle.command.specs.declared.Why.the-variants.{BadRange, BadSector, WriteProtected, UnsupportedErase, BadSpeed}
 use Rattle.rules.specs.Rules.{summing}
 use Rattle.uart.specs.Conversation as UC
 use Rattle.uart.specs.declared.Step as US
@@ -331,8 +334,62 @@ call-seen Power p = record { nack = refl; ack = λ f. refl }
 call-seen (Byte room b) p = by-reply (Byte room b) tt p
 call-seen (Framed room l) p = by-reply (Framed room l) tt p
 
+-- ---- the reason and the place
+
+-- every reason has a number
+numbered : (w : Why) → eqb (reason w) noReason ≡ false
+numbered BadComplement = refl
+numbered UnknownCommand = refl
+numbered AccessProtected = refl
+numbered OtherFrame = refl
+numbered BadChecksum = refl
+numbered BadAddress = refl
+numbered BadRange = refl
+numbered BadSector = refl
+numbered WriteProtected = refl
+numbered UnsupportedErase = refl
+numbered BadSpeed = refl
+
+-- a reply that refuses has one, and no other
+some-reason : (r : Reply) → eqb (reasonOf r) noReason ≡ not (refuses r)
+some-reason (Fixed Silence) = refl
+some-reason (Fixed Ack) = refl
+some-reason (Fixed AckAck) = refl
+some-reason (Fixed (Nack w)) = numbered w
+some-reason (Fixed (AckNack w)) = numbered w
+some-reason (Fixed Commands) = refl
+some-reason (Fixed Version) = refl
+some-reason (Fixed DeviceId) = refl
+some-reason (Data r at x) = refl
+some-reason (Crc at n) = refl
+
+-- a call tells the reason of what was decided
+reasoned : (i : Input) (p : State) → call i p .reason ≡ reasonOf (done i p .reply)
+unfolding call done perform if_gives_else_
+reasoned i p = by-test (accepts (causeFor i p)) (decide i (p .session) (viewIn p))
+  where
+    by-test : (t : Bool) (d : Decision) → (if t then perform i p d else refused (causeFor i p) p) .reason ≡ reasonOf (doneBy t d .reply)
+    by-test true d = refl
+    by-test false d = refl
+
+-- and no place where it tells no reason
+unplaced : (i : Input) (p : State) → T (eqb (call i p .reason) noReason) → call i p .place ≡ 0
+unfolding call perform
+unplaced i p = by-test (accepts (causeFor i p)) (decide i (p .session) (viewIn p))
+  where
+    by-test : (t : Bool) (d : Decision) → T (eqb ((if t then perform i p d else refused (causeFor i p) p) .reason) noReason)
+        → (if t then perform i p d else refused (causeFor i p) p) .place ≡ 0
+    by-test true d h = rw (holds-true (eqb (reasonOf (d .reply)) noReason) h) refl
+    by-test false d h = refl
+
 pub on-the-wire : OnTheWire
 on-the-wire = record {
   refusal = λ i p. call-seen i p .nack;
   acceptance = λ i p h. call-seen i p .ack (list-not-read i (p .session) h);
+  reason = told;
+  place = λ i p h. unplaced i p (subst T (sym (told i p)) h);
 }
+  where
+    told : (i : Input) (p : State) → eqb (call i p .reason) noReason ≡ not (nacked i (p .session) (call i p .reply))
+    told i p =
+        ap (λ (n : ℕ). eqb n noReason) (reasoned i p) ∙ some-reason (done i p .reply) ∙ ap not (sym (call-seen i p .nack))

@@ -13,10 +13,12 @@ pub record Powered : Type 0 where
   pub number : ℕ
   pub session : List ℕ
 
--- what an exported taking call leaves: its number, the length of the reply, and what was lent
+-- what an exported taking call leaves: its number, the length of the reply, the reason of a NACK and its place, and what was lent
 pub record Handed : Type 0 where
   pub number : ℕ
   pub length : ℕ
+  pub reason : ℕ
+  pub place : ℕ
   pub session : List ℕ
   pub memories : Memories
   pub buffer : List ℕ
@@ -26,7 +28,7 @@ abbrev pub Powers : List ℕ → Powered → Type 0
 Powers lent l = PowersOn lent (l .number) (l .session)
 
 abbrev pub Hands : Given → List ℕ → Handed → Type 0
-Hands g lent l = Takes g lent (l .number) (l .length) (l .session) (l .memories) (l .buffer)
+Hands g lent l = Takes g lent (l .number) (l .length) (l .reason) (l .place) (l .session) (l .memories) (l .buffer)
 
 pub record Determined : Type 0 where
   pub powerOn : (s t : Session) → PoweredOn s → PoweredOn t → s ≡ t

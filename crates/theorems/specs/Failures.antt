@@ -19,6 +19,7 @@ use Rattle.board.specs.declared.Sector.{Sector}
 use Rattle.memories.specs.Memories.{Memories, bytesOf, proper}
 use Rattle.command.specs.Progress.{stagedWith}
 use Rattle.command.specs.Says.{says}
+use Rattle.command.specs.Why.{noReason}
 use Rattle.command.specs.declared.Reply.{Reply}
 use Rattle.command.specs.declared.Reply.the-variants.{Fixed, Data, Crc}
 use Rattle.command.specs.declared.FixedReply.the-variants.{Silence, Ack, AckAck, Nack, AckNack, Commands, Version, DeviceId}
@@ -211,9 +212,12 @@ refuses (Fixed DeviceId) = false
 refuses (Data r at x) = false
 refuses (Crc at n) = false
 
--- an ACK and a NACK, as a host sees them, tell what was decided
+-- an ACK and a NACK, as a host sees them, tell what was decided, and a reason is told beside a NACK
 pub record OnTheWire : Type 0 where
   -- a NACK to any input, on any board
   pub refusal : (i : Input) (p : State) → nacked i (p .session) (call i p .reply) ≡ refuses (done i p .reply)
   -- an ACK to an input while a list of sectors is gathered
   pub acceptance : (i : Input) (p : State) → T (inEraseList (p .session) || inProtect (p .session)) → acked i (call i p .reply) ≡ acks (done i p .reply)
+  -- a reason is told exactly where there is a NACK, and a place only there
+  pub reason : (i : Input) (p : State) → eqb (call i p .reason) noReason ≡ not (nacked i (p .session) (call i p .reply))
+  pub place : (i : Input) (p : State) → T (not (nacked i (p .session) (call i p .reply))) → call i p .place ≡ 0

@@ -28,6 +28,7 @@ use Rattle.boot.specs.Causes.{causeNo, accepts}
 use Rattle.boot.specs.Calls.{State, powered, Input, Power, Byte, Framed, Outcome, causeFor, done, call, run}
 use Rattle.boot.specs.Promise.{Left, left}
 use Rattle.boot.specs.declared.Session.{Session}
+use Rattle.boot.specs.declared.Taken.{Taken}
 
 -- ---- an obeyed Access Unprotect
 
@@ -134,11 +135,19 @@ lent (TakeFrame buffer frame) = buffer
 abbrev pub filled : List ℕ → List ℕ → List ℕ
 filled before reply = reply ++ drop (length reply) before
 
--- everything: the number of its cause, the reply's length and the session; the memories; the reply buffer
+-- what a call hands back: the number of its cause, the reply's length, the reason and the place of a NACK, the session
+abbrev pub handedBack : Outcome → Taken
+handedBack o = record {
+  number = causeNo (o .cause);
+  length = length (o .reply);
+  reason = o .reason;
+  place = o .place;
+  session = o .state .session;
+}
+
+-- everything: that, the memories and the reply buffer
 abbrev pub leftBy : Outcome → List ℕ → Left
-leftBy o before =
-    left (record { number = causeNo (o .cause); length = length (o .reply); session = o .state .session }) (o .state .memories)
-    (filled before (o .reply))
+leftBy o before = left (handedBack o) (o .state .memories) (filled before (o .reply))
 
 abbrev pub leaves : Call → State → Left
 leaves c p = leftBy (call (input c) p) (lent c)
@@ -169,6 +178,8 @@ veiled i false l = l
 pub record Seen : Type 0 where
   pub number : ℕ
   pub length : ℕ
+  pub reason : ℕ
+  pub place : ℕ
   pub session : Session
   pub usd : List ℕ
   pub buffer : List ℕ
@@ -178,6 +189,8 @@ abbrev pub seen : Call → Session → Left → Seen
 seen c s l = record {
   number = l .result .number;
   length = l .result .length;
+  reason = l .result .reason;
+  place = l .result .place;
   session = l .result .session;
   usd = l .usd;
   buffer = veiled (input c) (answered (input c) s (l .result .number) (take (l .result .length) (l .buffer))) (l .buffer);

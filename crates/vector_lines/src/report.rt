@@ -4,7 +4,7 @@ ghost use Prim.Native.Nat.{_+_, _*_, _≤_};
 ghost use lib.ListN.{length};
 ghost use Rattle.words.specs.Hex.{fieldCharacters};
 ghost use Rattle.numbers.specs.Numbers.{longBytes};
-ghost use Rattle.vector_lines.specs.Sizes.{sessionBytes, lentBytes, replyRoom, lineRoom};
+ghost use Rattle.vector_lines.specs.Sizes.{callBytes, sessionBytes, lentBytes, replyRoom, lineRoom};
 use crate::FIELDS;
 use crate::wide;
 use boot::Session;
@@ -22,8 +22,10 @@ const SUM_BITS: u64 = 16;
 // How many values a byte has.
 const BYTE_VALUES: u64 = 256;
 
-// How many bytes a number below 256 takes.
+// How many bytes a number below 256 takes, and the place of a NACK.
 const ONE: usize = 1;
+
+const PLACE: usize = 2;
 
 // The room for the line of an answer: a large buffer of `io`.
 const ROOM: usize = 65536;
@@ -64,6 +66,16 @@ fn number(n: u64, width: usize, out: &mut [u8; ROOM], at: usize) -> usize
         rest = rest / BYTE_VALUES;
     }
     bytes(&told, width, out, at)
+}
+
+// Prints the numbers of a call: its cause, the reason of a NACK and its place, the length of the reply; and tells where they end.
+fn numbers(taken: Taken, out: &mut [u8; ROOM]) -> usize
+    ensures { λ r. ⌜ r ≡ 1 + callBytes * fieldCharacters ⌝ }
+{
+    let mut end = number(taken.number as u64, ONE, out, FIELDS);
+    end = number(taken.reason as u64, ONE, out, end);
+    end = number(taken.place as u64, PLACE, out, end);
+    number(taken.length as u64, LONG, out, end)
 }
 
 // Prints a session's numbers as they are lent and the digest of its staged bytes, and tells where they end.
@@ -110,8 +122,7 @@ fn line(
     let n = words::least(taken.length, buffer.len());
     let next = taken.session;
     out[0] = ANSWERED;
-    let mut end = number(taken.number as u64, ONE, out, FIELDS);
-    end = number(taken.length as u64, LONG, out, end);
+    let mut end = numbers(taken, out);
     end = bytes(buffer, n, out, end);
     end = session(next, out, end);
     end = digests(flash, sram, usd, buffer, out, end);

@@ -1,4 +1,4 @@
--- The number, the length and the session are those that an accepted call hands back.
+-- Number, length, reason, place and session are those that an accepted call hands back.
 use borrow.Author.Needs.{needs}
 use Rattle.boot.proofs.Session.accepted.Statement.{statement}
 use Rattle.boot.proofs.Session.accepted.Tie as tie
@@ -9,4 +9,6 @@ accepted-spec =
     (tie.spec
     (λ c κs. search needs)
     (λ c κs. search needs)
-    (λ c. rw (← c .before .number .ensures, ← c .after .ensures)))
+    (λ c κs. search needs)
+    (λ c κs. search needs)
+    (λ c. rw (c .before .before .number .ensures, c .after .ensures, c .before .place .ensures, c .before .before .before .reason .ensures)))

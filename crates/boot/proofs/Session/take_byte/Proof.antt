@@ -76,6 +76,13 @@ carry-out-requires c κs =
     let after-decide-byte = c .before .before .before .before .before .before .before .before .before .before .before .before in
     (cleared (after-decide-byte .before .before .before .before) .lengths, after-decide-byte .decide-byte .ensures .2)
 
+accepted-requires : tie.Need-accepted-requires
+accepted-requires c κs =
+    let after-carry-out = c .before .before .before .before .before .before in
+    let after-say = after-carry-out .before .before .before .before .before .before .before .before in
+    let after-decide-byte = after-say .before .before .before .before .before in
+    cleared (after-decide-byte .before .before .before .before) .firm
+
 returns-2 : tie.Need-returns-2
 unfolding causeFor decide sent
 returns-2 c =
@@ -108,7 +115,7 @@ take-byte-spec =
     decide-byte-requires
     say-requires
     carry-out-requires
-    (λ c κs. search needs)
+    accepted-requires
     (λ c. search needs)
     (λ c. search needs)
     (λ c. search needs)

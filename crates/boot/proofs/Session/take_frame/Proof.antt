@@ -98,6 +98,13 @@ carry-out-requires c κs =
     let after-decide-frame = c .before .before .before .before .before .before .before .before .before .before .before .before .before in
     (cleared (after-decide-frame .before .before .before .before .before .before) .lengths, after-decide-frame .decide-frame .ensures .2)
 
+accepted-requires : tie.Need-accepted-requires
+accepted-requires c κs =
+    let after-carry-out = c .before .before .before .before .before .before in
+    let after-say = after-carry-out .before .before .before .before .before .before .before .before in
+    let after-decide-frame = after-say .before .before .before .before .before .before in
+    cleared (after-decide-frame .before .before .before .before .before .before) .firm
+
 returns-2 : tie.Need-returns-2
 unfolding causeFor decide sent
 returns-2 c =
@@ -144,7 +151,7 @@ take-frame-spec =
     (λ c κs. search needs)
     say-requires
     carry-out-requires
-    (λ c κs. search needs)
+    accepted-requires
     (λ c. search needs)
     (λ c. search needs)
     (λ c. search needs)
