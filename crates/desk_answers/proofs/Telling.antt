@@ -1,11 +1,13 @@
--- What a call left, as it is told: its reply, and the state after it.
-use mathlib.Core.Path.{_≡_, refl, sym, ap, _∙_}
+-- What a call left, as it is told: its reply, its NACK, and the state after it.
+use mathlib.Core.Path.{_≡_, refl, sym, ap, ap₂, subst, _∙_}
 use mathlib.Core.Bool.{Bool, true, false}
-use mathlib.Core.List.{List, [], _∷_, _++_, map, append-nil}
+use mathlib.Core.List.{List, [], _∷_, _++_, map, append-nil, append-assoc}
 use Prim.Native.Nat.{ℕ, _+_, _*_, _%_, _≤_, _<_}
 use native.Mathlib.Omega.{arith}
 use denote.Enum.Declared.{tagOf}
 use types.Run.{OneOf, miss}
+use lib.Dec.{leb}
+use borrow.Author.Tests.{leb-true, leb-false}
 use lib.ListN.{length, getD, set, take, drop, length-append, length-drop}
 use lib.Seq.{take-append-seam}
 use Rattle.words.specs.Over.{put, newer}
@@ -24,17 +26,20 @@ use Rattle.boot.specs.declared.Session.{Session}
 use Rattle.boot.specs.declared.Taken.{Taken}
 use Rattle.words.specs.Hex.{space}
 use Rattle.desk_lines.specs.Digits.{byteIn}
-use Rattle.desk_lines.specs.Lines.{lineFeed, fields}
+use Rattle.desk_lines.specs.Lines.{lineFeed, mostCharacters, fields, kindOf}
 use Rattle.desk_print.specs.Digits.{decimal}
 use Rattle.desk_answers.specs.Told.{Told, quiet, _then_}
+use Rattle.desk_print.specs.Adds.{Adds}
 use Rattle.desk_print.specs.Prints.{spelled}
-use Rattle.desk_answers.specs.Answers.{answered, notUnderstood, deskRoom, spelledFor, tell, tells, callsOf, obeyed, notice, answerBy}
+use Rattle.desk_answers.specs.Answers.{answered, notUnderstood, deskRoom, spelledFor, Teller, made, makes, replyOf, tells, whyOf, notes}
+use Rattle.desk_answers.specs.Answers.{callsOf, explained, obeyed, notice, answerBy}
+use Rattle.desk_answers.specs.Why.{noteOf}
 use Rattle.desk_answers.specs.Promise.{Tells, Continues}
 use Rattle.desk_lines.specs.declared.Kind.{Kind}
 use Rattle.desk_lines.specs.declared.Kind.the-variants.{Bytes, Frame, PowerOn, Other}
 use Rattle.desk_lines.proofs.Kind.{the-type}
 use Rattle.desk_print.proofs.Printing.{length-spelled}
-use Rattle.desk_lines.proofs.Lines.{field-first}
+use Rattle.desk_lines.proofs.Lines.{field-first, kind-beyond}
 
 module _ (g : Given) (l : Left) (t : Took g l) where
   -- a reply is no longer than the room lent for it
@@ -51,37 +56,51 @@ module _ (g : Given) (l : Left) (t : Took g l) where
   pub took-reply : take (l .result .length) (l .buffer) ≡ outcome g .reply
   took-reply = rw (t .count, t .buffer) (take-append-seam (outcome g .reply) (drop (length (outcome g .reply)) (g .buffer)))
 
--- an input was taken, and its reply printed
+-- an input was taken
 module _ (input : ℕ → Input) (s : Session) (m : Memories) (lent : List ℕ) (room : length lent ≡ deskRoom) where
   abbrev pub given : Given
   given = record { input = input (length lent); state = stateOf s m; buffer = lent }
 
-  pub input-told : (r : Taken) (n : Memories) (buffer : List ℕ) → Took given (left r n buffer) → (at end : ℕ) (out out' : List ℕ)
-      → end ≡ at + length (spelledFor (input (length lent)) (take (r .length) buffer))
-      → out' ≡ put out at (spelledFor (input (length lent)) (take (r .length) buffer))
-      → Tells (tell (input deskRoom) (stateOf s m)) at out end out' (stateOf (r .session) n)
-  unfolding outcome tell
-  input-told r n buffer t at end out out' e w = record {
-    end = e
-        ∙ ap (λ (b : List ℕ). at + length (spelledFor (input (length lent)) b)) (took-reply given (left r n buffer) t)
-        ∙ ap (λ (k : ℕ). at + length (spelledFor (input k) (call (input k) (stateOf s m) .reply))) room;
-    text = w
-        ∙ ap (λ (b : List ℕ). put out at (spelledFor (input (length lent)) b)) (took-reply given (left r n buffer) t)
-        ∙ ap (λ (k : ℕ). put out at (spelledFor (input k) (call (input k) (stateOf s m) .reply))) room;
-    state = left-state ∙ ap (λ (k : ℕ). call (input k) (stateOf s m) .state) room;
-  }
-    where
-      left-state : stateOf (r .session) n ≡ call (input (length lent)) (stateOf s m) .state
-      left-state = λ i. record {
-        session = t .session i;
-        memories = record { flash = t .flash i; sram = t .sram i; usd = t .usd i };
-      }
+  module _ (r : Taken) (n : Memories) (buffer : List ℕ) (t : Took given (left r n buffer)) where
+    -- what is told of its outcome stands in a text
+    input-made : (f : Teller) (at end : ℕ) (out out' told : List ℕ) → told ≡ f (input (length lent)) (outcome given)
+        → end ≡ at + length told → out' ≡ put out at told → Tells (made f (input deskRoom) (stateOf s m)) at out end out' (stateOf (r .session) n)
+    unfolding outcome made
+    input-made f at end out out' told k e w = record {
+      end = e ∙ ap (λ (b : List ℕ). at + length b) (k ∙ same);
+      text = w ∙ ap (λ (b : List ℕ). put out at b) (k ∙ same);
+      state = left-state ∙ ap (λ (k : ℕ). call (input k) (stateOf s m) .state) room;
+    }
+      where
+        same : f (input (length lent)) (call (input (length lent)) (stateOf s m)) ≡ f (input deskRoom) (call (input deskRoom) (stateOf s m))
+        same = ap (λ (k : ℕ). f (input k) (call (input k) (stateOf s m))) room
+
+        left-state : stateOf (r .session) n ≡ call (input (length lent)) (stateOf s m) .state
+        left-state = λ i. record {
+          session = t .session i;
+          memories = record { flash = t .flash i; sram = t .sram i; usd = t .usd i };
+        }
+
+    -- its reply was printed
+    pub input-told : (at end : ℕ) (out out' : List ℕ)
+        → end ≡ at + length (spelledFor (input (length lent)) (take (r .length) buffer))
+        → out' ≡ put out at (spelledFor (input (length lent)) (take (r .length) buffer))
+        → Tells (made replyOf (input deskRoom) (stateOf s m)) at out end out' (stateOf (r .session) n)
+    input-told at end out out' e w =
+        input-made replyOf at end out out' (spelledFor (input (length lent)) (take (r .length) buffer))
+        (ap (spelledFor (input (length lent))) (took-reply given (left r n buffer) t)) e w
+
+    -- its NACK was noted
+    pub input-noted : (at end : ℕ) (out out' : List ℕ) → Adds out at end out' (noteOf (r .reason) (r .place))
+        → Tells (made whyOf (input deskRoom) (stateOf s m)) at out end out' (stateOf (r .session) n)
+    input-noted at end out out' a =
+        input-made whyOf at end out out' (noteOf (r .reason) (r .place)) (ap₂ noteOf (t .reason) (t .place)) (a .ends) (a .written)
 
 -- a byte was taken, and its reply printed in three characters each
 pub byte-told : (s : Session) (b : ℕ) (m : Memories) (lent : List ℕ) → length lent ≡ deskRoom
     → (r : Taken) (n : Memories) (buffer : List ℕ) → Took (givenByte s b m lent) (left r n buffer)
     → (at end : ℕ) (out out' : List ℕ) → end ≡ at + r .length * 3 → out' ≡ put out at (spelled (take (r .length) buffer))
-    → Tells (tell (Byte deskRoom b) (stateOf s m)) at out end out' (stateOf (r .session) n)
+    → Tells (made replyOf (Byte deskRoom b) (stateOf s m)) at out end out' (stateOf (r .session) n)
 byte-told s b m lent room r n buffer t at end out out' e w =
     let c = ap length (took-reply (givenByte s b m lent) (left r n buffer) t) ∙ sym (t .count) in
     let k = length-spelled (take (r .length) buffer) in
@@ -98,11 +117,12 @@ frame-whole room f p = by-cause (accepts (causeFor (Framed room f) p))
     by-cause false = refl
 
 -- one call that is told is all that is
-pub one-call : (i : Input) (p : State) (at end : ℕ) (out out' : List ℕ) (q : State) → Tells (tell i p) at out end out' q → Tells (tells (i ∷ []) p) at out end out' q
-unfolding tells
-one-call i p at end out out' q h = record {
-  end = h .end ∙ ap (λ (t : List ℕ). at + length t) (sym (append-nil (tell i p .text)));
-  text = h .text ∙ ap (λ (t : List ℕ). put out at t) (sym (append-nil (tell i p .text)));
+pub one-call : (f : Teller) (i : Input) (p : State) (at end : ℕ) (out out' : List ℕ) (q : State)
+    → Tells (made f i p) at out end out' q → Tells (makes f (i ∷ []) p) at out end out' q
+unfolding makes
+one-call f i p at end out out' q h = record {
+  end = h .end ∙ ap (λ (t : List ℕ). at + length t) (sym (append-nil (made f i p .text)));
+  text = h .text ∙ ap (λ (t : List ℕ). put out at t) (sym (append-nil (made f i p .text)));
   state = h .state;
 }
 
@@ -150,11 +170,11 @@ none-left a {from = from} {out = out} k = record {
 }
 
 -- the calls of fields from a place on: that of the first, and then those of the others
-pub tells-fields : (s : List ℕ) (i : ℕ) (p : State) → i + 2 < length s
-    → tells (map (Byte deskRoom) (fields (drop i s))) p
-    ≡ (tell (Byte deskRoom (byteIn (getD s (i + 1) 0) (getD s (i + 2) 0))) p then tells (map (Byte deskRoom) (fields (drop (i + 3) s))))
-unfolding tells
-tells-fields s i p h = rw (field-first s i h) refl
+pub makes-fields : (f : Teller) (s : List ℕ) (i : ℕ) (p : State) → i + 2 < length s
+    → makes f (map (Byte deskRoom) (fields (drop i s))) p
+    ≡ (made f (Byte deskRoom (byteIn (getD s (i + 1) 0) (getD s (i + 2) 0))) p then makes f (map (Byte deskRoom) (fields (drop (i + 3) s))))
+unfolding makes
+makes-fields f s i p h = rw (field-first s i h) refl
 
 -- ---- answers
 
@@ -162,32 +182,61 @@ tells-fields s i p h = rw (field-first s i h) refl
 put-behind : (m : List ℕ) (at end : ℕ) (t : List ℕ) (d : ℕ) → end ≡ at + length t → set (put m at t) end d ≡ put m at (t ++ d ∷ [])
 put-behind m at end t d e = sym (put-one (put m at t) end d) ∙ put-then m at end t (d ∷ []) e
 
--- replies that stand between `>` and LF are an answer
-pub obeyed-told : (t : Told State) (at end : ℕ) (m out' : List ℕ) (p : State)
-    → Tells t (at + 1) (set m at answered) end out' p → Tells (obeyed t) at m (end + 1) (set out' end lineFeed) p
-obeyed-told t at end m out' p h = record {
-  end = let l = length-append (t .text) (lineFeed ∷ []) in let e = h .end in omega arith;
-  text = rw (h .text, ← put-one m at answered, put-then m at (at + 1) (answered ∷ []) (t .text) (omega arith))
-      (put-behind m at end (answered ∷ t .text) lineFeed (let e = h .end in omega arith));
-  state = h .state;
-}
+-- replies that stand between `>` and LF, and what is explained behind them, are an answer
+pub obeyed-told : (why : Bool) (is : List Input) (p q : State) (at end last : ℕ) (m out' out'' : List ℕ)
+    → Tells (tells is p) (at + 1) (set m at answered) end out' q
+    → Adds (set out' end lineFeed) (end + 1) last out'' (explained why (notes is p .text))
+    → Tells (obeyed why is p) at m last out'' q
+obeyed-told why is p q at end last m out' out'' h a =
+    let t = tells is p .text in
+    let n = explained why (notes is p .text) in
+    let joined : (answered ∷ t ++ lineFeed ∷ []) ++ n ≡ answered ∷ t ++ lineFeed ∷ n = append-assoc (answered ∷ t) (lineFeed ∷ []) n in
+    let l = length-append t (lineFeed ∷ n) in
+    let k = length-append t (lineFeed ∷ []) in
+    let e = h .end in
+    let line : set out' end lineFeed ≡ put m at (answered ∷ t ++ lineFeed ∷ []) =
+    rw (h .text, ← put-one m at answered, put-then m at (at + 1) (answered ∷ []) t (omega arith))
+    (put-behind m at end (answered ∷ t) lineFeed (omega arith)) in
+    record {
+      end = omega (arith, a .ends);
+      text = a .written
+          ∙ ap (λ (o : List ℕ). put o (end + 1) n) line
+          ∙ put-then m at (end + 1) (answered ∷ t ++ lineFeed ∷ []) n (omega arith)
+          ∙ ap (λ (x : List ℕ). put m at x) joined;
+      state = h .state;
+    }
 
 -- a line of another kind than Other is answered by the replies of its calls
-pub obeyed-by : (k : Kind) (n : ℕ) (line : List ℕ) (p : State) → OneOf (0 ∷ 1 ∷ 2 ∷ []) (tagOf the-type k) → answerBy k n line p ≡ obeyed (tells (callsOf k line) p)
+pub obeyed-by : (why : Bool) (k : Kind) (n : ℕ) (line : List ℕ) (p : State) → OneOf (0 ∷ 1 ∷ 2 ∷ []) (tagOf the-type k)
+    → answerBy why k n line p ≡ obeyed why (callsOf k line) p
 unfolding answerBy
-obeyed-by Bytes n line p h = refl
-obeyed-by Frame n line p h = refl
-obeyed-by PowerOn n line p h = refl
-obeyed-by Other n line p h = absurd (miss (0 ∷ 1 ∷ 2 ∷ []) 3 tt h)
+obeyed-by why Bytes n line p h = refl
+obeyed-by why Frame n line p h = refl
+obeyed-by why PowerOn n line p h = refl
+obeyed-by why Other n line p h = absurd (miss (0 ∷ 1 ∷ 2 ∷ []) 3 tt h)
+
+-- and has no more than the most characters
+pub few-characters : (k : Kind) (line : List ℕ) → k ≡ kindOf line → OneOf (0 ∷ 1 ∷ 2 ∷ []) (tagOf the-type k) → length line ≤ mostCharacters
+few-characters k line e h = by-length (leb (length line) mostCharacters) refl
+  where
+    by-length : (t : Bool) → leb (length line) mostCharacters ≡ t → length line ≤ mostCharacters
+    by-length true l = leb-true (length line) mostCharacters l
+    by-length false l =
+        let other = e ∙ sym (kind-beyond line (leb-false (length line) mostCharacters l)) in
+        absurd (miss (0 ∷ 1 ∷ 2 ∷ []) 3 tt (subst (λ (x : Kind). OneOf (0 ∷ 1 ∷ 2 ∷ []) (tagOf the-type x)) other h))
 
 -- nothing is told in no character
 pub nothing-told : (p : State) (at : ℕ) (out : List ℕ) → Tells (quiet p) at out at out p
 nothing-told p at out = record { end = omega arith; text = sym (over-none newer out at); state = refl }
 
--- power on has no reply, and leaves the memories
+-- power on has no reply and no NACK, and leaves the memories
 pub power-told : (p : State) → tells (Power ∷ []) p ≡ quiet (powered (p .memories))
-unfolding tells tell call causeFor decide perform sent after effect says
+unfolding makes made call causeFor decide perform sent after effect says
 power-told p = refl
+
+pub power-noted : (p : State) → notes (Power ∷ []) p ≡ quiet (powered (p .memories))
+unfolding makes made call causeFor decide perform after effect
+power-noted p = refl
 
 -- a number that stands between `? ` and LF is a notice
 pub noticed : (n at end : ℕ) (m out' : List ℕ) → end ≡ at + 2 + length (decimal n) → out' ≡ put (put m at (notUnderstood ∷ space ∷ [])) (at + 2) (decimal n)

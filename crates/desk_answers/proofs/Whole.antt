@@ -52,11 +52,11 @@ keep-more begun c = by-length (leb keptCharacters (length begun)) refl
         (sym (take-all keptCharacters (begun ++ c ∷ []) (let l = length-append begun (c ∷ []) in omega arith)))
 
 -- the answer to what is kept is the answer to the line
-answer-kept : (n : ℕ) (line : List ℕ) (p : State) → answer n (take keptCharacters line) p ≡ answer n line p
+answer-kept : (why : Bool) (n : ℕ) (line : List ℕ) (p : State) → answer why n (take keptCharacters line) p ≡ answer why n line p
 unfolding answer answerBy
-answer-kept n line p = by-length (leb (length line) keptCharacters) refl
+answer-kept why n line p = by-length (leb (length line) keptCharacters) refl
   where
-    by-length : (t : Bool) → leb (length line) keptCharacters ≡ t → answer n (take keptCharacters line) p ≡ answer n line p
+    by-length : (t : Bool) → leb (length line) keptCharacters ≡ t → answer why n (take keptCharacters line) p ≡ answer why n line p
     by-length true e = rw (take-all keptCharacters line (leb-true (length line) keptCharacters e)) refl
     by-length false e =
         let h = leb-false (length line) keptCharacters e in
@@ -66,41 +66,41 @@ answer-kept n line p = by-length (leb (length line) keptCharacters) refl
 -- ---- the whole
 
 -- from a desk that has kept a line that has begun
-prints-from : (cs begun : List ℕ) (n : ℕ) (p : State) (line : List ℕ) → line ≡ take keptCharacters begun
-    → (hears cs (record { state = p; lines = n; line = line }) then inputEnds) .text ≡ answersFrom (suc n) (linesFrom begun cs) p
+prints-from : (why : Bool) (cs begun : List ℕ) (n : ℕ) (p : State) (line : List ℕ) → line ≡ take keptCharacters begun
+    → (hears cs (record { why = why; state = p; lines = n; line = line }) then inputEnds) .text ≡ answersFrom why (suc n) (linesFrom begun cs) p
 unfolding hears inputEnds
-prints-from [] [] n p line e = rw e refl
-prints-from [] (b ∷ begun) n p line e =
+prints-from why [] [] n p line e = rw e refl
+prints-from why [] (b ∷ begun) n p line e =
     let l : 0 < length line = subst (λ (x : List ℕ). 0 < length x) (sym e) (zero-lt-suc _) in
     rw (lt-ltb 0 (length line) l)
-    (ap (λ (t : Told State). t .text ++ []) (ap (λ (x : List ℕ). answer (suc n) x p) e ∙ answer-kept (suc n) (b ∷ begun) p))
-prints-from (c ∷ cs) begun n p line e = by-test (eqb c lineFeed)
-    (λ q. prints-from cs [] (suc n) q [] refl) (λ l k. prints-from cs (begun ++ c ∷ []) n p l k)
+    (ap (λ (t : Told State). t .text ++ []) (ap (λ (x : List ℕ). answer why (suc n) x p) e ∙ answer-kept why (suc n) (b ∷ begun) p))
+prints-from why (c ∷ cs) begun n p line e = by-test (eqb c lineFeed)
+    (λ q. prints-from why cs [] (suc n) q [] refl) (λ l k. prints-from why cs (begun ++ c ∷ []) n p l k)
   where
     d : Desk
-    d = record { state = p; lines = n; line = line }
+    d = record { why = why; state = p; lines = n; line = line }
 
     told : Told State
-    told = answer (suc n) line p
+    told = answer why (suc n) line p
 
     rest : Told Desk
-    rest = hears cs (record { state = told .state; lines = suc n; line = [] })
+    rest = hears cs (record { why = why; state = told .state; lines = suc n; line = [] })
 
     last : Told Desk
     last = inputEnds (rest .state)
 
     by-test : (t : Bool)
-        → ((q : State) → (hears cs (record { state = q; lines = suc n; line = [] }) then inputEnds) .text ≡ answersFrom (suc (suc n)) (linesFrom [] cs) q)
-        → ((l : List ℕ) → l ≡ take keptCharacters (begun ++ c ∷ []) → (hears cs (record { state = p; lines = n; line = l }) then inputEnds) .text ≡ answersFrom (suc n) (linesFrom (begun ++ c ∷ []) cs) p)
+        → ((q : State) → (hears cs (record { why = why; state = q; lines = suc n; line = [] }) then inputEnds) .text ≡ answersFrom why (suc (suc n)) (linesFrom [] cs) q)
+        → ((l : List ℕ) → l ≡ take keptCharacters (begun ++ c ∷ []) → (hears cs (record { why = why; state = p; lines = n; line = l }) then inputEnds) .text ≡ answersFrom why (suc n) (linesFrom (begun ++ c ∷ []) cs) p)
         → ((if t then lineEnds d then hears cs else hears cs (kept d c)) then inputEnds) .text
-        ≡ answersFrom (suc n) (if t then begun ∷ linesFrom [] cs else linesFrom (begun ++ c ∷ []) cs) p
+        ≡ answersFrom why (suc n) (if t then begun ∷ linesFrom [] cs else linesFrom (begun ++ c ∷ []) cs) p
     by-test true f g =
         ap (λ (x : List ℕ). (x ++ rest .text) ++ last .text) (append-nil (told .text))
         ∙ append-assoc (told .text) (rest .text) (last .text) ∙ ap (λ (x : List ℕ). told .text ++ x) (f (told .state))
-        ∙ ap (λ (t : Told State). t .text ++ answersFrom (suc (suc n)) (linesFrom [] cs) (t .state))
-        (ap (λ (x : List ℕ). answer (suc n) x p) e ∙ answer-kept (suc n) begun p)
+        ∙ ap (λ (t : Told State). t .text ++ answersFrom why (suc (suc n)) (linesFrom [] cs) (t .state))
+        (ap (λ (x : List ℕ). answer why (suc n) x p) e ∙ answer-kept why (suc n) begun p)
     by-test false f g = g (keep line c) (ap (λ (l : List ℕ). keep l c) e ∙ keep-more begun c)
 
 -- what desk hears from the start, and then the end of the input, prints what the paper says
-pub hears-whole : (input : List ℕ) → (hears input freshDesk then inputEnds) .text ≡ prints input
-hears-whole input = prints-from input [] 0 (powered freshMemories) [] refl
+pub hears-whole : (why : Bool) (input : List ℕ) → (hears input (freshDesk why) then inputEnds) .text ≡ prints why input
+hears-whole why input = prints-from why input [] 0 (powered freshMemories) [] refl

@@ -1,7 +1,8 @@
--- The example of document 01, "The program desk".
+-- The example of document 01, "The program desk", and one of desk that is asked for reasons.
 use Prim.Native.Nat.{ℕ}
 use Prim.Native.String.{String}
 use mathlib.Core.Path.{_≡_}
+use mathlib.Core.Bool.{true, false}
 use mathlib.Core.List.{List, [], _∷_, _++_}
 use Rattle.words.specs.Texts.{characters}
 use Rattle.desk_lines.specs.Lines.{lineFeed}
@@ -21,4 +22,14 @@ printed = "> 79" ∷ "> 79 20 01 07 79" ∷ ">" ∷ "> 079:79" ∷ "? 5" ∷ []
 
 -- the example holds
 abbrev pub Example : Type 0
-Example = prints (written typed) ≡ written printed
+Example = prints false (written typed) ≡ written printed
+
+-- a command that does not exist and an address whose checksum is wrong: of which NACK each is told, the second at wire byte 7 of a Read Memory
+abbrev pub mistyped : List String
+mistyped = "U 7F 05 FA" ∷ "U 11 EE 08 00 00 00 00 11 EE 08 00 00 00 08" ∷ "U 00" ∷ []
+
+abbrev pub explainedTo : List String
+explainedTo = "> 79 1F" ∷ "! 2 2 unknown command" ∷ "> 79 1F 79 79" ∷ "! 5 7 bad checksum" ∷ ">" ∷ []
+
+abbrev pub ExampleWhy : Type 0
+ExampleWhy = prints true (written mistyped) ≡ written explainedTo

@@ -1,4 +1,5 @@
 pub mod Told
+pub mod Why
 pub mod Answers
 pub mod Promise
 pub mod Desk

@@ -12,7 +12,7 @@ use Rattle.boot.specs.Promise.{stateOf}
 use Rattle.boot.specs.declared.Session.{Session}
 use Rattle.desk_lines.specs.Lines.{areFields, fields}
 use Rattle.desk_print.specs.Prints.{numberRoom}
-use Rattle.desk_answers.specs.Answers.{deskRoom, tells}
+use Rattle.desk_answers.specs.Answers.{deskRoom, tells, notes}
 use Rattle.desk_answers.specs.Told.{Told}
 
 -- what is told stands in a text from one place to another, the text is else unchanged, and a state is as told
@@ -34,11 +34,24 @@ pub record Passes (s : Session) (right : Bool) (rest : List ℕ) (next : Session
   pub left : T (areFields (drop n rest))
   pub told : (m : Memories) → proper m ≡ right
       → tells (map (Byte deskRoom) (fields rest)) (stateOf s m) ≡ tells (map (Byte deskRoom) (fields (drop n rest))) (stateOf next m)
+  pub noted : (m : Memories) → proper m ≡ right
+      → notes (map (Byte deskRoom) (fields rest)) (stateOf s m) ≡ notes (map (Byte deskRoom) (fields (drop n rest))) (stateOf next m)
 
 -- the most characters of the notice that bears a line's number
 abbrev pub noticeRoom : ℕ
 noticeRoom = numberRoom + 3
 
--- the most characters that the answer to a line of n characters may need: for each field a whole reply, a byte in three characters
+-- the most numbers that are noted of a call, and the most characters that a number makes desk print: half of an explanation
+abbrev pub noteNumbers : ℕ
+noteNumbers = 2
+
+abbrev pub noteRoom : ℕ
+noteRoom = 40
+
+-- the most characters that a character of a line may make desk print: of each field a whole reply, a byte in three characters, and what is noted of it
+abbrev pub characterRoom : ℕ
+characterRoom = deskRoom + noteRoom
+
+-- the most that the answer to a line of n characters may need
 abbrev pub answerRoom : ℕ → ℕ
-answerRoom n = deskRoom * n + noticeRoom
+answerRoom n = characterRoom * n + noticeRoom

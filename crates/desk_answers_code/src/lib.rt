@@ -1,4 +1,6 @@
-// Answers one line: makes its calls and prints their replies, or tells its number.
+// Answers one line: makes its calls, prints their replies and why they refused, or tells its number.
+mod why;
+
 ghost use mathlib.Core.Path.{_≡_};
 ghost use mathlib.Core.List.{[], _∷_, map};
 ghost use Prim.Native.Nat.{_+_, _*_, _≤_, _<_};
@@ -9,14 +11,15 @@ ghost use Rattle.words.specs.Over.{put};
 ghost use Rattle.memories.specs.Lent.{were, are};
 ghost use Rattle.boot.specs.Calls.{Byte, Framed};
 ghost use Rattle.boot.specs.Promise.{stateOf};
-ghost use Rattle.desk_lines.specs.Lines.{areFields, fields, areFrame, frameWritten, kindOf};
-ghost use Rattle.desk_answers.specs.Answers.{deskRoom, tell, tells, callsOf, obeyed, notice, answer};
-ghost use Rattle.desk_answers.specs.Promise.{Tells, Passes, noticeRoom, answerRoom};
+ghost use Rattle.desk_lines.specs.Lines.{mostCharacters, areFields, fields, areFrame, frameWritten, kindOf};
+ghost use Rattle.desk_answers.specs.Answers.{deskRoom, made, replyOf, tells, whyOf, notes as Answers·notes, callsOf, obeyed, notice, answer};
+ghost use Rattle.desk_answers.specs.Promise.{Tells, Passes, noteNumbers, noticeRoom, answerRoom};
 use boot::Session;
 use desk_answers::ANSWERED;
 use desk_answers::NOT_UNDERSTOOD;
 use desk_lines::Kind;
 use desk_lines::line;
+use desk_lines::line::MOST_CHARACTERS;
 use desk_written::first::LINE_FEED;
 use words::FIELD;
 use words::SPACE;
@@ -33,35 +36,48 @@ pub struct Answered {
     pub end: usize,
 }
 
+// What is so while calls are told: the session, where the text of their replies ends, and where the notes of their NACKs do.
+pub struct Telling {
+    pub session: Session,
+    pub end: usize,
+    pub noted: usize,
+}
+
 // What is so after bytes were taken at once: the session, and how many characters they were.
 pub struct Passed {
     pub session: Session,
     pub characters: usize,
 }
 
-// Makes the call of one byte, and prints its reply.
+// Makes the call of one byte, prints its reply and notes its NACK.
 fn tell_byte(
-    session: Session,
+    begun: Telling,
     byte: u8,
     flash: &mut [u8],
     sram: &mut [u8],
     usd: &mut [u8],
     out: &mut [u8],
-    at: usize,
-) -> Answered
-    requires { ⌜ at + deskRoom * fieldCharacters ≤ length (now out) ⌝ }
-    ensures told { λ r. ⌜ Tells (tell (Byte deskRoom byte) (stateOf session (were flash sram usd))) at (now (out .entry))
+    notes: &mut [u16],
+) -> Telling
+    requires { ⌜ begun .end + deskRoom * fieldCharacters ≤ length (now out) ⌝ }
+    requires { ⌜ begun .noted + noteNumbers ≤ length (now notes) ⌝ }
+    ensures told { λ r. ⌜ Tells (made replyOf (Byte deskRoom byte) (stateOf (begun .session) (were flash sram usd))) (begun .end) (now (out .entry))
         (r .end) (now (out .exit)) (stateOf (r .session) (are flash sram usd)) ⌝ }
-    ensures fits { λ r. ⌜ r .end ≤ at + deskRoom * fieldCharacters ⌝ }
+    ensures noted { λ r. ⌜ Tells (made whyOf (Byte deskRoom byte) (stateOf (begun .session) (were flash sram usd))) (begun .noted) (now (notes .entry))
+        (r .noted) (now (notes .exit)) (stateOf (r .session) (are flash sram usd)) ⌝ }
+    ensures fits { λ r. ⌜ (r .end ≤ begun .end + deskRoom * fieldCharacters) × (r .noted ≤ begun .noted + noteNumbers) ⌝ }
 {
     let mut buffer = [0u8; ROOM];
+    let session = begun.session;
     let taken = session.take_byte(byte, flash, sram, usd, &mut buffer);
     let next = taken.session;
     let n = taken.length;
-    let end = desk_print::bytes(&buffer, n, out, at);
-    Answered {
+    let end = desk_print::bytes(&buffer, n, out, begun.end);
+    let noted = why::note(taken.reason, taken.place, notes, begun.noted);
+    Telling {
         session: next,
         end: end,
+        noted: noted,
     }
 }
 
@@ -86,28 +102,28 @@ fn pass(session: Session, rest: &[u8], right: bool) -> Passed
     }
 }
 
-// Makes the calls of hex bytes one after another, and prints their replies.
+// Makes the calls of hex bytes one after another, prints their replies and notes their NACKs.
 fn tell_bytes(
-    session: Session,
+    begun: Telling,
     rest: &[u8],
     flash: &mut [u8],
     sram: &mut [u8],
     usd: &mut [u8],
     out: &mut [u8],
-    at: usize,
-) -> Answered
+    notes: &mut [u16],
+) -> Telling
     requires { ⌜ T (areFields (now rest)) ⌝ }
-    requires { ⌜ at + deskRoom * length (now rest) ≤ length (now out) ⌝ }
-    ensures told { λ r. ⌜ Tells (tells (map (Byte deskRoom) (fields (now (rest .entry)))) (stateOf session (were flash sram usd))) at (now (out .entry))
-        (r .end) (now (out .exit)) (stateOf (r .session) (are flash sram usd)) ⌝ }
-    ensures fits { λ r. ⌜ r .end ≤ at + deskRoom * length (now (rest .entry)) ⌝ }
+    requires { ⌜ begun .end + deskRoom * length (now rest) ≤ length (now out) ⌝ }
+    requires { ⌜ begun .noted + length (now rest) ≤ length (now notes) ⌝ }
+    ensures told { λ r. ⌜ Tells (tells (map (Byte deskRoom) (fields (now (rest .entry)))) (stateOf (begun .session) (were flash sram usd)))
+        (begun .end) (now (out .entry)) (r .end) (now (out .exit)) (stateOf (r .session) (are flash sram usd)) ⌝ }
+    ensures noted { λ r. ⌜ Tells (Answers·notes (map (Byte deskRoom) (fields (now (rest .entry)))) (stateOf (begun .session) (were flash sram usd)))
+        (begun .noted) (now (notes .entry)) (r .noted) (now (notes .exit)) (stateOf (r .session) (are flash sram usd)) ⌝ }
+    ensures fits { λ r. ⌜ (r .end ≤ begun .end + deskRoom * length (now (rest .entry))) × (r .noted ≤ begun .noted + length (now (rest .entry))) ⌝ }
 {
     let n = rest.len();
     let right = boot::take::lengths_right(flash.len(), sram.len(), usd.len());
-    let mut told = Answered {
-        session: session,
-        end: at,
-    };
+    let mut told = begun;
     let mut i = 0;
     while i < n {
         let here = told.session;
@@ -119,75 +135,83 @@ fn tell_bytes(
             continue;
         }
         let byte = desk_written::byte_at(rest, i);
-        told = tell_byte(next, byte, flash, sram, usd, out, told.end);
+        told = tell_byte(told, byte, flash, sram, usd, out, notes);
         i += FIELD;
     }
     told
 }
 
-// Makes the call of the frame that characters write, and prints the frames of its reply.
+// Makes the call of the frame that characters write, prints the frames of its reply and notes its NACK.
 fn tell_frame(
-    session: Session,
+    begun: Telling,
     rest: &[u8],
     flash: &mut [u8],
     sram: &mut [u8],
     usd: &mut [u8],
     out: &mut [u8],
-    at: usize,
-) -> Answered
+    notes: &mut [u16],
+) -> Telling
     requires { ⌜ T (areFrame (now rest)) ⌝ }
-    requires { ⌜ at + deskRoom * length (now rest) ≤ length (now out) ⌝ }
-    ensures told { λ r. ⌜ Tells (tells (Framed deskRoom (frameWritten (now (rest .entry))) ∷ []) (stateOf session (were flash sram usd))) at (now (out .entry))
-        (r .end) (now (out .exit)) (stateOf (r .session) (are flash sram usd)) ⌝ }
-    ensures fits { λ r. ⌜ r .end ≤ at + deskRoom * length (now (rest .entry)) ⌝ }
+    requires { ⌜ begun .end + deskRoom * length (now rest) ≤ length (now out) ⌝ }
+    requires { ⌜ begun .noted + length (now rest) ≤ length (now notes) ⌝ }
+    ensures told { λ r. ⌜ Tells (tells (Framed deskRoom (frameWritten (now (rest .entry))) ∷ []) (stateOf (begun .session) (were flash sram usd)))
+        (begun .end) (now (out .entry)) (r .end) (now (out .exit)) (stateOf (r .session) (are flash sram usd)) ⌝ }
+    ensures noted { λ r. ⌜ Tells (Answers·notes (Framed deskRoom (frameWritten (now (rest .entry))) ∷ []) (stateOf (begun .session) (were flash sram usd)))
+        (begun .noted) (now (notes .entry)) (r .noted) (now (notes .exit)) (stateOf (r .session) (are flash sram usd)) ⌝ }
+    ensures fits { λ r. ⌜ (r .end ≤ begun .end + deskRoom * length (now (rest .entry))) × (r .noted ≤ begun .noted + length (now (rest .entry))) ⌝ }
 {
     let mut input = [0u8; frames::BYTES];
     desk_written::frame(rest, &mut input);
     let mut buffer = [0u8; ROOM];
+    let session = begun.session;
     let taken = session.take_frame(&input, flash, sram, usd, &mut buffer);
     let next = taken.session;
     let n = taken.length;
-    let end = desk_print::frames(&buffer[..n], out, at);
-    Answered {
+    let end = desk_print::frames(&buffer[..n], out, begun.end);
+    let noted = why::note(taken.reason, taken.place, notes, begun.noted);
+    Telling {
         session: next,
         end: end,
+        noted: noted,
     }
 }
 
-// Makes the calls of a line of a kind, and prints their replies.
+// Makes the calls of a line of a kind, prints their replies and notes their NACKs.
 fn tell_line(
-    session: Session,
+    begun: Telling,
     kind: Kind,
     line: &[u8],
     flash: &mut [u8],
     sram: &mut [u8],
     usd: &mut [u8],
     out: &mut [u8],
-    at: usize,
-) -> Answered
+    notes: &mut [u16],
+) -> Telling
     requires { ⌜ kind ≡ kindOf (now line) ⌝ }
-    requires { ⌜ at + deskRoom * length (now line) ≤ length (now out) ⌝ }
-    ensures told { λ r. ⌜ Tells (tells (callsOf kind (now (line .entry))) (stateOf session (were flash sram usd))) at (now (out .entry))
+    requires { ⌜ begun .end + deskRoom * length (now line) ≤ length (now out) ⌝ }
+    requires { ⌜ begun .noted + length (now line) ≤ length (now notes) ⌝ }
+    ensures told { λ r. ⌜ Tells (tells (callsOf kind (now (line .entry))) (stateOf (begun .session) (were flash sram usd))) (begun .end) (now (out .entry))
         (r .end) (now (out .exit)) (stateOf (r .session) (are flash sram usd)) ⌝ }
-    ensures fits { λ r. ⌜ r .end ≤ at + deskRoom * length (now (line .entry)) ⌝ }
+    ensures noted { λ r. ⌜ Tells (Answers·notes (callsOf kind (now (line .entry))) (stateOf (begun .session) (were flash sram usd)))
+        (begun .noted) (now (notes .entry)) (r .noted) (now (notes .exit)) (stateOf (r .session) (are flash sram usd)) ⌝ }
+    ensures fits { λ r. ⌜ (r .end ≤ begun .end + deskRoom * length (now (line .entry))) × (r .noted ≤ begun .noted + length (now (line .entry))) ⌝ }
 {
     match kind {
-        Kind::Bytes => tell_bytes(session, &line[1..], flash, sram, usd, out, at),
-        Kind::Frame => tell_frame(session, &line[1..], flash, sram, usd, out, at),
-        Kind::PowerOn => Answered {
+        Kind::Bytes => tell_bytes(begun, &line[1..], flash, sram, usd, out, notes),
+        Kind::Frame => tell_frame(begun, &line[1..], flash, sram, usd, out, notes),
+        Kind::PowerOn => Telling {
             session: Session::power_on(),
-            end: at,
+            end: begun.end,
+            noted: begun.noted,
         },
-        Kind::Other => Answered {
-            session: session,
-            end: at,
-        },
+        Kind::Other => begun,
     }
 }
 
-// Answers a line of a kind by the replies of its calls.
+// Answers a line of a kind by the replies of its calls, and says why they refused where reasons are asked for.
 fn obey(
     session: Session,
+    why: bool,
     kind: Kind,
     line: &[u8],
     flash: &mut [u8],
@@ -197,19 +221,27 @@ fn obey(
     at: usize,
 ) -> Answered
     requires { ⌜ kind ≡ kindOf (now line) ⌝ }
+    requires { ⌜ length (now line) ≤ mostCharacters ⌝ }
     requires { ⌜ at + answerRoom (length (now line)) ≤ length (now out) ⌝ }
-    ensures told { λ r. ⌜ Tells (obeyed (tells (callsOf kind (now (line .entry))) (stateOf session (were flash sram usd)))) at (now (out .entry))
+    ensures told { λ r. ⌜ Tells (obeyed why (callsOf kind (now (line .entry))) (stateOf session (were flash sram usd))) at (now (out .entry))
         (r .end) (now (out .exit)) (stateOf (r .session) (are flash sram usd)) ⌝ }
     ensures fits { λ r. ⌜ r .end ≤ at + answerRoom (length (now (line .entry))) ⌝ }
 {
     out[at] = ANSWERED;
-    let told = tell_line(session, kind, line, flash, sram, usd, out, at + 1);
+    let begun = Telling {
+        session: session,
+        end: at + 1,
+        noted: 0,
+    };
+    let mut notes = [0u16; MOST_CHARACTERS];
+    let told = tell_line(begun, kind, line, flash, sram, usd, out, &mut notes);
     let next = told.session;
     let end = told.end;
+    let noted = told.noted;
     out[end] = LINE_FEED;
     Answered {
         session: next,
-        end: end + 1,
+        end: why::explain_all(why, &notes[..noted], out, end + 1),
     }
 }
 
@@ -227,9 +259,10 @@ fn disobey(number: u64, out: &mut [u8], at: usize) -> usize
     end + 1
 }
 
-// Answers a line of a number.
+// Answers a line of a number, with reasons where they are asked for.
 pub fn answer(
     session: Session,
+    why: bool,
     number: u64,
     line: &[u8],
     flash: &mut [u8],
@@ -239,7 +272,7 @@ pub fn answer(
     at: usize,
 ) -> Answered
     requires { ⌜ at + answerRoom (length (now line)) ≤ length (now out) ⌝ }
-    ensures told { λ r. ⌜ Tells (answer number (now (line .entry)) (stateOf session (were flash sram usd))) at (now (out .entry))
+    ensures told { λ r. ⌜ Tells (answer why number (now (line .entry)) (stateOf session (were flash sram usd))) at (now (out .entry))
         (r .end) (now (out .exit)) (stateOf (r .session) (are flash sram usd)) ⌝ }
     ensures fits { λ r. ⌜ r .end ≤ at + answerRoom (length (now (line .entry))) ⌝ }
 {
@@ -249,6 +282,6 @@ pub fn answer(
             session: session,
             end: disobey(number, out, at),
         },
-        _ => obey(session, kind, line, flash, sram, usd, out, at),
+        _ => obey(session, why, kind, line, flash, sram, usd, out, at),
     }
 }

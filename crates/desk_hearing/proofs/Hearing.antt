@@ -36,8 +36,8 @@ pub kept-full : (l : List ℕ) (j c : ℕ) → length l ≡ keptCharacters → j
 kept-full l j c e k h = rw (length-take-le j l (omega arith), le-ltb j keptCharacters h) refl
 
 -- a desk of which nothing is kept is before a line
-pub nothing-kept : (d : C.Desk) (line : List ℕ) (m : Memories) → d .kept ≡ 0 → deskOf d line m ≡ atLine (d .session) m (d .lines)
-nothing-kept d line m e = ap (λ (n : ℕ). record { state = stateOf (d .session) m; lines = d .lines; line = take n line }) e
+pub nothing-kept : (d : C.Desk) (line : List ℕ) (m : Memories) → d .kept ≡ 0 → deskOf d line m ≡ atLine (d .why) (d .session) m (d .lines)
+nothing-kept d line m e = ap (λ (n : ℕ). record { why = d .why; state = stateOf (d .session) m; lines = d .lines; line = take n line }) e
 
 -- something told, and a state made of what is then so
 pub told-as : {A B : Type 0} (t : Told A) (g : A → B) (at end : ℕ) (out out' : List ℕ) (a : A)

@@ -10,6 +10,7 @@ use Rattle.desk_hearing.specs.declared.Desk.{Desk}
 -- the desk of the code's numbers and what is lent to it
 abbrev pub deskOf : Desk → List ℕ → Memories → D.Desk
 deskOf d line m = record {
+  why = d .why;
   state = stateOf (d .session) m;
   lines = d .lines;
   line = take (d .kept) line;

@@ -3,10 +3,9 @@ ghost use mathlib.Core.Path.{_≡_};
 ghost use Prim.Native.Nat.{_+_, _*_, _^_, _≤_, _<_};
 ghost use lib.ListN.{length, take, drop};
 ghost use Rattle.memories.specs.Lent.{were, are};
-ghost use Rattle.desk_answers.specs.Answers.{deskRoom};
 ghost use Rattle.desk_answers.specs.Told.{_then_};
 ghost use Rattle.desk_answers.specs.Desk.{keptCharacters, keep, lineEnds, hears, inputEnds};
-ghost use Rattle.desk_answers.specs.Promise.{Tells, Continues, answerRoom};
+ghost use Rattle.desk_answers.specs.Promise.{Tells, Continues, characterRoom, answerRoom};
 ghost use Rattle.desk_hearing.specs.Promise.{deskOf};
 use boot::Session;
 use desk_lines::line::MOST_CHARACTERS;
@@ -15,10 +14,11 @@ use desk_written::first::LINE_FEED;
 // What is kept of a line: one character more than it may have tells that it is too long.
 pub const KEPT_CHARACTERS: usize = MOST_CHARACTERS + 1;
 
-// What desk knows of its host between two characters: the session, how many lines were answered, how many characters are kept of the line that has
-// begun, and where the text ends.
+// What desk knows of its host between two characters: the session, whether it asks for reasons, how many lines were answered, how many characters are
+// kept of the line that has begun, and where the text ends.
 pub struct Desk {
     pub session: Session,
+    pub why: bool,
     pub lines: u64,
     pub kept: usize,
     pub end: usize,
@@ -63,10 +63,12 @@ fn end_line(
     ensures counts { λ r. ⌜ (r .kept ≡ 0) × (r .lines ≡ desk .lines + 1) ⌝ }
 {
     let session = desk.session;
+    let why = desk.why;
     let number = desk.lines + 1;
     let kept = desk.kept;
     let told = desk_answers_code::answer(
         session,
+        why,
         number,
         &line[..kept],
         flash,
@@ -78,6 +80,7 @@ fn end_line(
     let next = told.session;
     Desk {
         session: next,
+        why: why,
         lines: number,
         kept: 0,
         end: told.end,
@@ -114,6 +117,7 @@ fn go_on(
     Heard {
         desk: Desk {
             session: passed,
+            why: next.why,
             lines: next.lines + lines,
             kept: 0,
             end: end,
@@ -135,7 +139,7 @@ pub fn hear(
     requires { ⌜ length (now line) ≡ keptCharacters ⌝ }
     requires { ⌜ desk .kept ≤ keptCharacters ⌝ }
     requires { ⌜ desk .lines + length (now text) < 2 ^ 64 ⌝ }
-    requires { ⌜ desk .end + deskRoom * (desk .kept + length (now text)) ≤ length (now out) ⌝ }
+    requires { ⌜ desk .end + characterRoom * (desk .kept + length (now text)) ≤ length (now out) ⌝ }
     ensures told { λ r. ⌜ Tells (hears (now (text .entry)) (deskOf desk (now (line .entry)) (were flash sram usd))) (desk .end) (now (out .entry))
         (r .end) (now (out .exit)) (deskOf r (now (line .exit)) (are flash sram usd)) ⌝ }
     ensures fits { λ r. ⌜ r .end ≤ length (now (out .entry)) ⌝ }

@@ -1,6 +1,7 @@
 -- What is so between two reads, and what some text that was read has left.
 use Prim.Native.Nat.{ℕ, _+_, _*_, _≤_}
 use mathlib.Core.Path.{_≡_}
+use mathlib.Core.Bool.{Bool}
 use mathlib.Core.List.{List, [], _∷_}
 use lib.Dec.{leb}
 use lib.ListN.{length}
@@ -8,7 +9,7 @@ use Rattle.words.specs.Choice.{if_then_else_}
 use Rattle.words.specs.Lists.{cut}
 use Rattle.words.specs.Over.{put}
 use Rattle.memories.specs.Memories.{Memories}
-use Rattle.desk_answers.specs.Answers.{deskRoom}
+use Rattle.desk_answers.specs.Promise.{characterRoom}
 use Rattle.desk_answers.specs.Told.{_then_}
 use Rattle.desk_answers.specs.Desk as D
 use Rattle.desk_answers.specs.Desk.{keptCharacters, freshDesk, hears, inputEnds}
@@ -24,7 +25,7 @@ pieceCharacters = 256
 
 -- the room for what one piece makes it print, whatever it is
 abbrev pub outCharacters : ℕ
-outCharacters = deskRoom * (keptCharacters + pieceCharacters)
+outCharacters = characterRoom * (keptCharacters + pieceCharacters)
 
 -- there is room for the line that has begun and for the answers, and none is left unwritten
 pub record Ready (d : Desk) (line out : List ℕ) : Type 0 where
@@ -39,7 +40,7 @@ placeFor end need room = if leb (end + need) room then end else 0
 
 -- where the answers to a piece are put
 abbrev pub placeOf : List ℕ → D.Desk → ℕ → List ℕ → ℕ
-placeOf piece d end out = placeFor end (deskRoom * (length (d .line) + length piece)) (length out)
+placeOf piece d end out = placeFor end (characterRoom * (length (d .line) + length piece)) (length out)
 
 -- the room for answers after pieces were heard one by one, from where the answers before them end
 abbrev pub roomAfter : List (List ℕ) → D.Desk → ℕ → List ℕ → List ℕ
@@ -60,12 +61,12 @@ pub record Turns (before : D.Desk) (lent : List ℕ) (after : D.Desk) (left : Li
   pub few : length text ≤ readCharacters
   pub heard : TakesIn text before lent after left
 
--- a desk is what the fresh board, just powered, becomes by some text
-pub record HasHeard (d : D.Desk) : Type 0 where
+-- a desk, asked for reasons or not, is what the fresh board, just powered, becomes by some text
+pub record HasHeard (why : Bool) (d : D.Desk) : Type 0 where
   pub text : List ℕ
-  pub desk : d ≡ hears text freshDesk .state
+  pub desk : d ≡ hears text (freshDesk why) .state
 
 -- memories are what the fresh board, just powered, is left with by some text and the end of the input
-pub record LeftBy (m : Memories) : Type 0 where
+pub record LeftBy (why : Bool) (m : Memories) : Type 0 where
   pub text : List ℕ
-  pub memories : m ≡ (hears text freshDesk then inputEnds) .state .state .memories
+  pub memories : m ≡ (hears text (freshDesk why) then inputEnds) .state .state .memories

@@ -1,7 +1,9 @@
 // Reads a host's lines and writes the answers, over file descriptors: what is read and written is not proved, what is done with it is.
 ghost use mathlib.Core.Path.{_≡_};
+ghost use mathlib.Core.Bool.{true};
 ghost use Prim.Native.Nat.{_+_, _^_, _≤_, _<_};
 ghost use lib.ListN.{length};
+ghost use Rattle.words.specs.Texts.{characters};
 ghost use Rattle.memories.specs.Lent.{held, were, are};
 ghost use Rattle.memories.specs.Memories.{freshMemories};
 ghost use Rattle.desk_answers.specs.Desk.{keptCharacters};
@@ -9,6 +11,7 @@ ghost use Rattle.desk_hearing.specs.Promise.{deskOf};
 ghost use Rattle.desk_loop.specs.Turns.{readCharacters, outCharacters, Ready, placeFor, TakesIn, Turns, LeftBy};
 use board::Board;
 use boot::Session;
+use desk_answers::CHARACTER_ROOM;
 use desk_hearing::Desk;
 use desk_hearing::KEPT_CHARACTERS;
 use desk_hearing::finish;
@@ -22,7 +25,7 @@ const READ_CHARACTERS: usize = 4096;
 const PIECE_CHARACTERS: usize = 256;
 
 // The room for what one piece makes it print, whatever it is.
-const OUT_CHARACTERS: usize = can::ROOM * (KEPT_CHARACTERS + PIECE_CHARACTERS);
+const OUT_CHARACTERS: usize = CHARACTER_ROOM * (KEPT_CHARACTERS + PIECE_CHARACTERS);
 
 // How many reads are made at most, a number that no run uses up.
 const TURNS: u64 = 0x0008_0000_0000_0000;
@@ -37,6 +40,13 @@ pub struct Turned {
 pub struct Place {
     pub at: usize,
     pub going: bool,
+}
+
+// Whether an argument asks for reasons.
+pub fn asks_why(argument: &[u8]) -> bool
+    ensures { λ r. ⌜ (r ≡ true → now (argument .entry) ≡ characters "--why") × (now (argument .entry) ≡ characters "--why" → r ≡ true) ⌝ }
+{
+    check::same(argument, b"--why")
 }
 
 // A flash that is erased.
@@ -122,7 +132,7 @@ fn take_in(
     let mut i = 0;
     while i < n {
         let next = words::least(n - i, PIECE_CHARACTERS) + i;
-        let need = can::ROOM * (here.kept + (next - i));
+        let need = CHARACTER_ROOM * (here.kept + (next - i));
         let place = make_room(here.end, need, going, to, out);
         here.end = place.at;
         going = place.going;
@@ -177,6 +187,7 @@ fn turns_left(turns: u64, going: bool) -> u64
 
 // Reads until the input ends, and answers a last line that has no LF.
 fn sit(
+    why: bool,
     from: i32,
     to: i32,
     line: &mut [u8],
@@ -188,10 +199,11 @@ fn sit(
     requires { ⌜ length (now line) ≡ keptCharacters ⌝ }
     requires { ⌜ outCharacters ≤ length (now out) ⌝ }
     requires { ⌜ held flash sram usd ≡ freshMemories ⌝ }
-    ensures { λ _. ⌜ LeftBy (are flash sram usd) ⌝ }
+    ensures { λ _. ⌜ LeftBy why (are flash sram usd) ⌝ }
 {
     let mut desk = Desk {
         session: Session::power_on(),
+        why: why,
         lines: 0,
         kept: 0,
         end: 0,
@@ -207,14 +219,15 @@ fn sit(
     io::write_all(to, &out[..end]);
 }
 
-// The program desk: from the fresh board, just powered, it reads lines until they end and writes the answers.
-pub fn run(from: i32, to: i32) {
+// The program desk, asked for reasons or not: from the fresh board, just powered, it reads lines until they end and writes the answers.
+pub fn run(why: bool, from: i32, to: i32) {
     let mut flash = fresh_flash();
     let mut sram = fresh_sram();
     let mut usd = fresh_usd();
     let mut line = [0u8; KEPT_CHARACTERS];
     let mut out = room();
     sit(
+        why,
         from,
         to,
         &mut line,

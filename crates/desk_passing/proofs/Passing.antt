@@ -1,6 +1,6 @@
 -- A line of a frame that is only gathered is answered by `>`, and what comes after it is heard by the session that has taken its bytes.
 use mathlib.Core.Path.{_≡_, refl, sym, ap, ap₂, subst, _∙_}
-use mathlib.Core.Bool.{Bool, not}
+use mathlib.Core.Bool.{Bool, true, false, not}
 use mathlib.Core.List.{List, [], _∷_, _++_, append-nil, append-assoc}
 use Prim.Native.Nat.{ℕ, zero, suc, _+_, _-_, _≤_, _<_}
 use native.Mathlib.Omega.{arith}
@@ -23,7 +23,7 @@ use Rattle.desk_lines.proofs.Lines.{FrameGood, frame-good, data-fits}
 use Rattle.desk_written.specs.First.{endless, behindLetter}
 use Rattle.desk_written.proofs.FrameFirst.{first-line}
 use Rattle.desk_written.proofs.ReadBack.{carried-back, id-back, formed-back}
-use Rattle.desk_answers.specs.Answers.{answered, deskRoom, tell, tells, answerBy, answer}
+use Rattle.desk_answers.specs.Answers.{answered, deskRoom, made, makes, answerBy, answer}
 use Rattle.desk_answers.specs.Promise.{Tells, Continues}
 use Rattle.desk_answers.specs.Told.{Told, quiet, _then_}
 use Rattle.desk_answers.proofs.Telling.{all-left, left-of-left, text-told, one-told}
@@ -32,7 +32,7 @@ use Rattle.desk_passing.specs.Passing.{SilentLine, atLine, nods, behind,
 
 -- the desk with a line that has begun
 abbrev begun : Desk → List ℕ → Desk
-begun d l = record { state = d .state; lines = d .lines; line = l }
+begun d l = record { why = d .why; state = d .state; lines = d .lines; line = l }
 
 -- characters that end no line, and are not too many, are kept
 hears-endless : (l rest : List ℕ) (d : Desk) → T (endless l) → length (d .line) + length l ≤ keptCharacters
@@ -80,21 +80,23 @@ module _ (s : Session) (text : List ℕ) (end count : ℕ) (new : List ℕ) (l :
         })
         ∙ ap (λ (b : List ℕ). onlyGathered b (stateOf s m)) (carried-back rest good)
 
-    line-answered : (k : ℕ) → answer k (take end text) (stateOf s m) ≡ record { text = answered ∷ lineFeed ∷ []; state = stateOf (gathered brought s) m }
-    unfolding answer answerBy tells tell
-    line-answered k = let p = first-line text end (l .first) in rw (p .kind, p .behind, only-gathered) refl
+    line-answered : (why : Bool) (k : ℕ)
+        → answer why k (take end text) (stateOf s m) ≡ record { text = answered ∷ lineFeed ∷ []; state = stateOf (gathered brought s) m }
+    unfolding answer answerBy makes made
+    line-answered true k = let p = first-line text end (l .first) in rw (p .kind, p .behind, only-gathered) refl
+    line-answered false k = let p = first-line text end (l .first) in rw (p .kind, p .behind, only-gathered) refl
 
-    pub line-passed : (k : ℕ) → hears text (atLine s m k)
-        ≡ behind (answered ∷ lineFeed ∷ []) (hears (drop (end + 1) text) (atLine (gathered brought s) m (suc k)))
+    pub line-passed : (why : Bool) (k : ℕ) → hears text (atLine why s m k)
+        ≡ behind (answered ∷ lineFeed ∷ []) (hears (drop (end + 1) text) (atLine why (gathered brought s) m (suc k)))
     unfolding hears
-    line-passed k =
+    line-passed why k =
         let p = first-line text end (l .first) in
         let w = l .first .within in
         let n = length-take-le end text (omega arith) in
         let o = p .short in
-        ap (λ (t : List ℕ). hears t (atLine s m k)) (p .parts)
-        ∙ hears-endless (take end text) (lineFeed ∷ drop (end + 1) text) (atLine s m k) (p .plain) (omega arith)
-        ∙ ap (λ (a : Told State). (a then λ q. quiet (record { state = q; lines = suc k; line = [] })) then hears (drop (end + 1) text)) (line-answered (suc k))
+        ap (λ (t : List ℕ). hears t (atLine why s m k)) (p .parts)
+        ∙ hears-endless (take end text) (lineFeed ∷ drop (end + 1) text) (atLine why s m k) (p .plain) (omega arith)
+        ∙ ap (λ (a : Told State). (a then λ q. quiet (record { why = why; state = q; lines = suc k; line = [] })) then hears (drop (end + 1) text)) (line-answered why (suc k))
 
 -- ---- lines one after another
 
@@ -114,7 +116,7 @@ pub none-passed : (s : Session) (right : Bool) (text : List ℕ) → PassesLines
 none-passed s right text = record {
   within = omega arith;
   few = omega arith;
-  told = λ m e k. ap (λ (n : ℕ). hears text (atLine s m n)) (omega arith);
+  told = λ why m e k. ap (λ (n : ℕ). hears text (atLine why s m n)) (omega arith);
 }
 
 -- after one line more
@@ -133,15 +135,15 @@ module _ (first s : Session) (right : Bool) (text : List ℕ) (lines i : ℕ) (p
       record {
         within = omega arith;
         few = omega arith;
-        told = λ m e k.
-            let a = line-passed s (drop i text) end count new l m (rw e g) (k + lines) in
+        told = λ why m e k.
+            let a = line-passed s (drop i text) end count new l m (rw e g) why (k + lines) in
             let j : suc (k + lines) ≡ k + (lines + 1) = omega arith in
-            p .told m e k
+            p .told why m e k
             ∙ ap (λ (x : Told Desk). behind (nods lines) x)
-            (a ∙ ap₂ (λ (n : ℕ) (b : List ℕ). behind (answered ∷ lineFeed ∷ []) (hears b (atLine next m n))) j (drop-drop (end + 1) i text))
-            ∙ ap (λ (b : List ℕ). record { text = b; state = hears (drop (i + (end + 1)) text) (atLine next m (k + (lines + 1))) .state })
-            (sym (append-assoc (nods lines) (answered ∷ lineFeed ∷ []) (hears (drop (i + (end + 1)) text) (atLine next m (k + (lines + 1))) .text))
-            ∙ ap (λ (b : List ℕ). b ++ hears (drop (i + (end + 1)) text) (atLine next m (k + (lines + 1))) .text) (nods-more lines));
+            (a ∙ ap₂ (λ (n : ℕ) (b : List ℕ). behind (answered ∷ lineFeed ∷ []) (hears b (atLine why next m n))) j (drop-drop (end + 1) i text))
+            ∙ ap (λ (b : List ℕ). record { text = b; state = hears (drop (i + (end + 1)) text) (atLine why next m (k + (lines + 1))) .state })
+            (sym (append-assoc (nods lines) (answered ∷ lineFeed ∷ []) (hears (drop (i + (end + 1)) text) (atLine why next m (k + (lines + 1))) .text))
+            ∙ ap (λ (b : List ℕ). b ++ hears (drop (i + (end + 1)) text) (atLine why next m (k + (lines + 1))) .text) (nods-more lines));
       }
 
   one-more-hears : HearsFrames next right
@@ -164,10 +166,10 @@ module _ (first s : Session) (right : Bool) (text : List ℕ) (lines i : ℕ) (p
       (omega (arith, l .counted, data-fits w (frame-good w (l .first .frame))), l .silent .short, one-more .within)
 
 -- a line was answered, and the lines that were then passed stand answered behind it
-pub gone-on : (d : Desk) (rest : List ℕ) (s next : Session) (m : Memories) (right : Bool) (k lines n at mid end : ℕ) (out between : List ℕ)
-    → Tells (lineEnds d) at out mid between (atLine s m k) → proper m ≡ right → PassesLines s right rest next lines n → end ≡ mid + lines + lines
-    → Continues (hears (drop n rest) (atLine next m (k + lines))) end (put between mid (nods lines)) (lineEnds d then hears rest) at out
-gone-on d rest s next m right k lines n at mid end out between h w p e =
-    left-of-left (text-told (hears (drop n rest) (atLine next m (k + lines))) (nods lines) mid end between (omega (arith, e, length-nods lines)))
-    (subst (λ (x : Told Desk). Continues x mid between (lineEnds d then hears rest) at out) (p .told m w k)
+pub gone-on : (d : Desk) (rest : List ℕ) (why : Bool) (s next : Session) (m : Memories) (right : Bool) (k lines n at mid end : ℕ) (out between : List ℕ)
+    → Tells (lineEnds d) at out mid between (atLine why s m k) → proper m ≡ right → PassesLines s right rest next lines n → end ≡ mid + lines + lines
+    → Continues (hears (drop n rest) (atLine why next m (k + lines))) end (put between mid (nods lines)) (lineEnds d then hears rest) at out
+gone-on d rest why s next m right k lines n at mid end out between h w p e =
+    left-of-left (text-told (hears (drop n rest) (atLine why next m (k + lines))) (nods lines) mid end between (omega (arith, e, length-nods lines)))
+    (subst (λ (x : Told Desk). Continues x mid between (lineEnds d then hears rest) at out) (p .told why m w k)
     (one-told (lineEnds d) (hears rest) (all-left (lineEnds d then hears rest) at out) h))

@@ -21,9 +21,9 @@ pub record SilentLine (step taken expected : ℕ) (text : List ℕ) (end count :
   pub counted : count ≡ length (fields (drop idCharacters (behindLetter end text)))
   pub bytes : take count new ≡ fields (drop idCharacters (behindLetter end text))
 
--- the desk before a line begins
-abbrev pub atLine : Session → Memories → ℕ → Desk
-atLine s m lines = record { state = stateOf s m; lines = lines; line = [] }
+-- the desk before a line begins, asked for reasons or not
+abbrev pub atLine : Bool → Session → Memories → ℕ → Desk
+atLine why s m lines = record { why = why; state = stateOf s m; lines = lines; line = [] }
 
 -- the answers to so many lines that were understood and have no reply
 abbrev pub nods : ℕ → List ℕ
@@ -39,5 +39,5 @@ behind l t = record { text = l ++ t .text; state = t .state }
 pub record PassesLines (s : Session) (right : Bool) (text : List ℕ) (next : Session) (lines n : ℕ) : Type 0 where
   pub within : n ≤ length text
   pub few : lines + lines ≤ n
-  pub told : (m : Memories) → proper m ≡ right → (k : ℕ)
-      → hears text (atLine s m k) ≡ behind (nods lines) (hears (drop n text) (atLine next m (k + lines)))
+  pub told : (why : Bool) (m : Memories) → proper m ≡ right → (k : ℕ)
+      → hears text (atLine why s m k) ≡ behind (nods lines) (hears (drop n text) (atLine why next m (k + lines)))

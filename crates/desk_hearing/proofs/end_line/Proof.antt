@@ -32,12 +32,12 @@ returns c =
     let n = start .args .desk .lines in
     let e : suc n ≡ n + 1 = omega arith in
     let b = rw (length-take-le (start .args .desk .kept) (start .args .line .now) (start .pre .0)) at (after-answer .answer .ensures .1) in (
-      rw e (told-as (answer (n + 1) (take (start .args .desk .kept) (start .args .line .now))
+      rw e (told-as (answer (start .args .desk .why) (n + 1) (take (start .args .desk .kept) (start .args .line .now))
           (stateOf (start .args .desk .session) (held (start .args .flash) (start .args .sram) (start .args .usd))))
-          (λ (p : State). record { state = p; lines = n + 1; line = [] }) (start .args .desk .end) (after-answer .answer .result .end)
-          (start .args .out .now) (after-answer .answer .last .1 .1 .1 .1 .1 .1 .0)
-          (stateOf (after-answer .answer .result .session) (memories (after-answer .answer .last .1 .1 .1 .0)
-          (after-answer .answer .last .1 .1 .1 .1 .0) (after-answer .answer .last .1 .1 .1 .1 .1 .0))) (after-answer .answer .ensures .0)),
+          (λ (p : State). record { why = start .args .desk .why; state = p; lines = n + 1; line = [] }) (start .args .desk .end) (after-answer .answer .result .end)
+          (start .args .out .now) (after-answer .answer .last .1 .1 .1 .1 .1 .1 .1 .0)
+          (stateOf (after-answer .answer .result .session) (memories (after-answer .answer .last .1 .1 .1 .1 .0)
+          (after-answer .answer .last .1 .1 .1 .1 .1 .0) (after-answer .answer .last .1 .1 .1 .1 .1 .1 .0))) (after-answer .answer .ensures .0)),
       (b, (refl, refl)),
     )
 

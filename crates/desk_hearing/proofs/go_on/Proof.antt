@@ -61,7 +61,7 @@ returns c =
     let b = after-end-line .end-line .ensures .1 in
     let d = deskOf (start .args .desk) (start .args .line .now) (held (start .args .flash) (start .args .sram) (start .args .usd)) in
     let last = after-end-line .end-line .last in (
-      rw (after-nod .nod .ensures .1) (gone-on d (start .args .rest .now) (after-end-line .end-line .result .session)
+      rw (after-nod .nod .ensures .1) (gone-on d (start .args .rest .now) (after-end-line .end-line .result .why) (after-end-line .end-line .result .session)
           (after-gather .gather .result .session) (memories (last .1 .1 .0) (last .1 .1 .1 .0) (last .1 .1 .1 .1 .0))
           (after-gather .before .lengths-right .result) (after-end-line .end-line .result .lines) (after-gather .gather .result .lines)
           (after-gather .gather .result .characters) (start .args .desk .end) (after-end-line .end-line .result .end)

@@ -7,10 +7,9 @@ use lib.Seq.{drop-length, drop-drop}
 use borrow.Author.Tests.{eq-eqb, ne-eqb}
 use Rattle.words.proofs.Slices.{to-the-end}
 use Rattle.memories.specs.Memories.{memories}
-use Rattle.desk_answers.specs.Answers.{deskRoom}
 use Rattle.desk_answers.specs.Desk.{keptCharacters, hears}
 use Rattle.desk_hearing.specs.Promise.{deskOf}
-use Rattle.desk_answers.specs.Promise.{Continues}
+use Rattle.desk_answers.specs.Promise.{Continues, characterRoom}
 use Rattle.desk_answers.proofs.Telling.{all-left, left-of-left, none-left}
 use Rattle.desk_hearing.proofs.Hearing.{hears-end, hears-kept}
 use Rattle.desk_hearing.proofs.hear.Statement.{statement}
@@ -22,7 +21,7 @@ Inv-loop text line₀ flash₀ sram₀ usd₀ out₀ n here₀ i₀ line flash s
     × (length line ≡ keptCharacters)
     × (here .kept ≤ keptCharacters)
     × (here .lines ≤ here₀ .lines + i)
-    × (here .end + deskRoom * (here .kept + (n - i)) ≤ length out₀)
+    × (here .end + characterRoom * (here .kept + (n - i)) ≤ length out₀)
     × Continues (hears (drop i text) (deskOf here line (memories flash sram usd))) (here .end) out
     (hears text (deskOf here₀ line₀ (memories flash₀ sram₀ usd₀))) (here₀ .end) out₀
     × (length flash ≡ length flash₀)

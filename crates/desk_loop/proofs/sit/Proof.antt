@@ -13,7 +13,7 @@ use Rattle.desk_loop.proofs.sit.Statement.{statement}
 use Rattle.desk_loop.proofs.sit.Tie as tie
 
 abbrev Inv-loop : tie.InvT-loop
-Inv-loop from to line₀ flash₀ sram₀ usd₀ out₀ desk₀ turns₀ line flash sram usd out desk turns =
+Inv-loop why from to line₀ flash₀ sram₀ usd₀ out₀ desk₀ turns₀ line flash sram usd out desk turns =
     Ready desk line out
     × (desk .lines + readCharacters * turns ≤ 2 ^ 63)
     × (length line ≡ length line₀)
@@ -21,10 +21,10 @@ Inv-loop from to line₀ flash₀ sram₀ usd₀ out₀ desk₀ turns₀ line fl
     × (length sram ≡ length sram₀)
     × (length usd ≡ length usd₀)
     × (length out ≡ length out₀)
-    × HasHeard (deskOf desk line (memories flash sram usd))
+    × HasHeard why (deskOf desk line (memories flash sram usd))
 
 abbrev μ-loop : tie.MeasureT-loop
-μ-loop from to line₀ flash₀ sram₀ usd₀ out₀ desk₀ turns₀ line flash sram usd out desk turns = turns
+μ-loop why from to line₀ flash₀ sram₀ usd₀ out₀ desk₀ turns₀ line flash sram usd out desk turns = turns
 
 loop-holds : tie.Need-loop-holds Inv-loop μ-loop
 loop-holds c =
@@ -36,7 +36,7 @@ loop-holds c =
       refl,
       refl,
       refl,
-      sits-down _ (start .args .line .now) _ (c .power-on .ensures .session) (start .pre .1 .1),
+      sits-down (start .args .why) _ (start .args .line .now) _ (c .power-on .ensures .session) (start .pre .1 .1),
     )
 
 turn-requires : tie.Need-turn-requires Inv-loop μ-loop

@@ -6,10 +6,10 @@ use Rattle.desk_scripts.proofs.main.Statement.{statement}
 use Rattle.desk_scripts.proofs.main.Tie as tie
 
 abbrev Inv-loop : tie.InvT-loop
-Inv-loop i₀ i-end i = 1 ≤ i
+Inv-loop why₀ i₀ i-end why i = 1 ≤ i
 
 abbrev μ-loop : tie.MeasureT-loop
-μ-loop i₀ i-end i = i-end - i
+μ-loop why₀ i₀ i-end why i = i-end - i
 
 pub main-spec : {M : Type 1} → statement M
 main-spec =

@@ -12,13 +12,13 @@ use Rattle.boot.specs.Decide as BD
 use Rattle.boot.specs.Causes as BC
 use Rattle.boot.specs.Calls as BK
 use Rattle.desk_lines.specs.Lines.{kindOf}
-use Rattle.desk_answers.specs.Answers.{tell, tells, answerBy, answer}
+use Rattle.desk_answers.specs.Answers.{made, makes, answerBy, answer}
 use Rattle.desk_answers.specs.Example.{Example}
 use Rattle.desk_answers.proofs.held.example.Statement.{statement}
 use Rattle.desk_answers.proofs.held.example.Tie as tie
 
 example : Example
-unfolding kindOf tell tells answerBy answer BK.call BK.perform BK.sent BK.decide BK.causeFor BC.causeOf BD.connected BD.decideByte BD.decideFrame BS.after BS.sound UC.obeyed UC.commanded UC.complete UC.heard S.says Q.unlessProtected D.if_gives_else_ E.effect W.viewOf W.writeProtected R.placeOf
+unfolding kindOf made makes answerBy answer BK.call BK.perform BK.sent BK.decide BK.causeFor BC.causeOf BD.connected BD.decideByte BD.decideFrame BS.after BS.sound UC.obeyed UC.commanded UC.complete UC.heard S.says Q.unlessProtected D.if_gives_else_ E.effect W.viewOf W.writeProtected R.placeOf
 example = refl
 
 pub example-spec : {M : Type 1} → statement M
