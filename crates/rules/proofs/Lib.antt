@@ -1,3 +1,4 @@
 pub mod Unless
 pub mod Made
 pub mod Good
+pub mod First
