@@ -1,3 +1,4 @@
 pub mod Steps
 pub mod Carried
 pub mod Good
+mod First

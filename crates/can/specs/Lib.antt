@@ -1,3 +1,4 @@
 pub mod Steps
 pub mod Conversation
+pub mod Tests
 pub mod Rulings
