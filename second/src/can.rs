@@ -1,15 +1,15 @@
 //! The CAN conversation: a command frame, and for three commands the frames gathered after it.
 
 use crate::commands::{
-    count_sent_as_one_less, is_protected, EraseSelector, ACCESS_PROTECT, ACCESS_UNPROTECT, CAN_LIST, DEVICE_ID, ERASE, FIRMWARE_CRC,
-    GET_COMMANDS, GET_DEVICE_ID, GET_VERSION, JUMP, PROTECT, READ_MEMORY, RESET_DEVICE, SPEED, UNPROTECT, VERSION, WRITE_MEMORY,
+    count_sent_as_one_less, EraseSelector, ACCESS_PROTECT, ACCESS_UNPROTECT, CAN_LIST, DEVICE_ID, ERASE, FIRMWARE_CRC, GET_COMMANDS,
+    GET_DEVICE_ID, GET_VERSION, JUMP, PROTECT, READ_MEMORY, RESET_DEVICE, SPEED, UNPROTECT, VERSION, WRITE_MEMORY,
 };
 use crate::effects::{self, Done};
 use crate::ends::Effect;
 use crate::frame::{frame_bytes, Frame, FRAME_DATA_BYTES};
 use crate::memories::Memories;
 use crate::near::{Edge, Miss};
-use crate::refused::{require, Refused};
+use crate::refused::{broken_if, judge, judged, Refusal, Refused, Test};
 use crate::reply::{Reply, ACK, NACK};
 use crate::session::{CanStep, Next, Session, Step, HIGHEST_SPEED};
 
@@ -53,7 +53,7 @@ pub fn take_frame(
     frame: &Frame,
     memories: &mut Memories,
     reply: &mut Reply,
-) -> Result<Effect, Refused> {
+) -> Result<Effect, Refusal> {
     let mut frames = Frames { id: running_id(step).unwrap_or(frame.id), reply };
     let taken = match step {
         CanStep::Idle => command(frame, memories, &mut frames),
@@ -89,32 +89,51 @@ pub fn needed_dlc(command: u16) -> Option<usize> {
     }
 }
 
-/// Takes a command frame: its ID is the command.
-fn command(frame: &Frame, memories: &mut Memories, frames: &mut Frames) -> Result<Done, Refused> {
+/// What a command frame breaks by its DLC and ID, and by protection; the data are read whatever the DLC is.
+fn form(frame: &Frame, memories: &Memories) -> [Test; 3] {
     let needed = needed_dlc(frame.id).unwrap_or(frame.dlc);
-    require(frame.dlc == needed, Refused::Dlc(Miss::of(frame.dlc, needed, needed)))?;
-    let locked = is_protected(frame.id) && effects::protection_is_on(memories.usd);
-    require(!locked, Refused::Protected)?;
+    let known = CAN_LIST[1..].iter().any(|command| u16::from(*command) == frame.id);
+    let miss = Miss::by_high_byte(CAN_LIST[1..].contains(&(frame.id as u8)));
+    [
+        broken_if(frame.dlc != needed, Refused::Dlc(Miss::of(frame.dlc, needed, needed))),
+        broken_if(!known, Refused::Unknown(miss)),
+        effects::locked(frame.id, memories),
+    ]
+}
+
+/// Takes a command frame: its ID is the command.
+fn command(frame: &Frame, memories: &mut Memories, frames: &mut Frames) -> Result<Done, Refusal> {
+    let form = form(frame, memories);
     match frame.id {
-        GET_COMMANDS => Ok(tell(&[(CAN_LIST.len() - 1) as u8], &CAN_LIST, frames)),
-        GET_VERSION => Ok(tell(&[], &VERSION, frames)),
-        GET_DEVICE_ID => Ok(tell(&[], &DEVICE_ID, frames)),
-        SPEED => speed(frame, frames),
-        READ_MEMORY => read_memory(frame, memories, frames),
-        JUMP => jump(frame, frames),
-        WRITE_MEMORY => write_memory(frame, memories, frames),
-        ERASE => erase(frame, memories, frames),
+        SPEED => speed(frame, &form, frames),
+        READ_MEMORY => read_memory(frame, &form, memories, frames),
+        JUMP => jump(frame, &form, frames),
+        WRITE_MEMORY => write_memory(frame, &form, memories, frames),
+        ERASE => erase(frame, &form, memories, frames),
+        FIRMWARE_CRC => firmware_crc(frame, &form, memories, frames),
+        _ => {
+            judge(&[&form])?;
+            Ok(obey(frame, memories, frames))
+        }
+    }
+}
+
+/// Obeys a command that has no further rules.
+fn obey(frame: &Frame, memories: &mut Memories, frames: &mut Frames) -> Done {
+    match frame.id {
+        GET_COMMANDS => tell(&[(CAN_LIST.len() - 1) as u8], &CAN_LIST, frames),
+        GET_VERSION => tell(&[], &VERSION, frames),
+        GET_DEVICE_ID => tell(&[], &DEVICE_ID, frames),
         PROTECT => {
             let x = count_sent_as_one_less(frame.bytes[0]);
             frames.send(&[ACK]);
-            Ok(enter_list(CanStep::ProtectList, x))
+            enter_list(CanStep::ProtectList, x)
         }
-        FIRMWARE_CRC => firmware_crc(frame, memories, frames),
         UNPROTECT | ACCESS_PROTECT | ACCESS_UNPROTECT | RESET_DEVICE => {
             frames.send_each(&[ACK, ACK]);
-            Ok(effects::resetting(frame.id, memories))
+            effects::resetting(frame.id, memories)
         }
-        _ => Err(Refused::Unknown(Miss::by_high_byte(CAN_LIST[1..].contains(&(frame.id as u8))))),
+        _ => unreachable!("a listed command is obeyed"),
     }
 }
 
@@ -134,18 +153,18 @@ fn enter_list(step: CanStep, x: usize) -> Done {
 }
 
 /// Takes 0x03: the first byte 0 to 3 is the new speed, the second byte is free.
-fn speed(frame: &Frame, frames: &mut Frames) -> Result<Done, Refused> {
+fn speed(frame: &Frame, form: &[Test], frames: &mut Frames) -> Result<Done, Refusal> {
     let speed = frame.bytes[0];
     let (number, highest) = (usize::from(speed), usize::from(HIGHEST_SPEED));
-    require(speed <= HIGHEST_SPEED, Refused::Speed(Miss::of(number, 0, highest)))?;
+    judge(&[form, &[broken_if(number > highest, Refused::Speed(Miss::of(number, 0, highest)))]])?;
     frames.send_each(&[ACK, ACK]);
     Ok((Effect::ChangedSpeed(Edge::of(number, 0, highest)), Next::IdleAtSpeed(speed)))
 }
 
 /// Takes 0x11: ACK, then frames of eight and a last with what remains.
-fn read_memory(frame: &Frame, memories: &Memories, frames: &mut Frames) -> Result<Done, Refused> {
+fn read_memory(frame: &Frame, form: &[Test], memories: &Memories, frames: &mut Frames) -> Result<Done, Refusal> {
     let x = count_sent_as_one_less(frame.bytes[4]);
-    let (effect, data) = effects::read(memories, frame.address(), x)?;
+    let (effect, data) = effects::read(memories, frame.address(), x, form)?;
     frames.send(&[ACK]);
     for part in data.chunks(FRAME_DATA_BYTES) {
         frames.send(part);
@@ -154,74 +173,79 @@ fn read_memory(frame: &Frame, memories: &Memories, frames: &mut Frames) -> Resul
 }
 
 /// Takes 0x21: ACK and jump.
-fn jump(frame: &Frame, frames: &mut Frames) -> Result<Done, Refused> {
-    let running = effects::jump(frame.address())?;
+fn jump(frame: &Frame, form: &[Test], frames: &mut Frames) -> Result<Done, Refusal> {
+    let running = effects::jump(frame.address(), form)?;
     frames.send(&[ACK]);
     Ok(running)
 }
 
 /// Takes 0x31: range, USD rule and sector protection are tested with the command frame.
-fn write_memory(frame: &Frame, memories: &Memories, frames: &mut Frames) -> Result<Done, Refused> {
+fn write_memory(frame: &Frame, form: &[Test], memories: &Memories, frames: &mut Frames) -> Result<Done, Refusal> {
     let x = count_sent_as_one_less(frame.bytes[4]);
-    effects::writable(memories, frame.address(), x)?;
-    let (memory, edge) = effects::in_a_region(frame.address())?;
+    let (memory, offset) = effects::writable(memories, frame.address(), x, form)?;
     frames.send(&[ACK]);
     let step = Step::Can(CanStep::WriteData);
+    let edge = Edge::of(offset, 0, memory.region().bytes - 1);
     Ok((Effect::EnteredAt(step, memory, edge), Next::EnterAt(step, x, frame.address())))
 }
 
 /// Takes 0x44: a list is gathered, a special erase is ACK and then ACK or NACK.
-fn erase(frame: &Frame, memories: &mut Memories, frames: &mut Frames) -> Result<Done, Refused> {
-    match EraseSelector::from_bytes(frame.bytes[0], frame.bytes[1]) {
-        EraseSelector::List(x) => {
-            frames.send(&[ACK]);
-            Ok(enter_list(CanStep::EraseList, x))
-        }
-        EraseSelector::Special(selector) => {
-            frames.send(&[ACK]);
-            let done = effects::erase_special(memories, selector, Ok(()))?;
-            frames.send(&[ACK]);
-            Ok(done)
-        }
-        EraseSelector::Other(miss) => Err(Refused::Selector(miss)),
+fn erase(frame: &Frame, form: &[Test], memories: &mut Memories, frames: &mut Frames) -> Result<Done, Refusal> {
+    let selector = EraseSelector::from_bytes(frame.bytes[0], frame.bytes[1]);
+    let special = match selector {
+        Ok(EraseSelector::Special(selector)) => Some(effects::erasable_by(memories, selector)),
+        _ => None,
+    };
+    if special.is_some() && form.iter().all(Option::is_none) {
+        frames.send(&[ACK]);
+    }
+    let selector = judged(&[form, &[selector.err(), special.flatten()]], selector.ok())?;
+    frames.send(&[ACK]);
+    match selector {
+        EraseSelector::List(x) => Ok(enter_list(CanStep::EraseList, x)),
+        EraseSelector::Special(selector) => effects::erase_special(memories, selector, form),
     }
 }
 
 /// Takes 0xAC: ACK, one frame of four.
-fn firmware_crc(frame: &Frame, memories: &Memories, frames: &mut Frames) -> Result<Done, Refused> {
+fn firmware_crc(frame: &Frame, form: &[Test], memories: &Memories, frames: &mut Frames) -> Result<Done, Refusal> {
     let sectors = count_sent_as_one_less(u16::from_be_bytes([frame.bytes[4], frame.bytes[5]]));
-    let (effect, crc) = effects::firmware_crc(memories, frame.address(), sectors)?;
+    let (effect, crc) = effects::firmware_crc(memories, frame.address(), sectors, form)?;
     frames.send(&[ACK]);
     frames.send(&crc.to_be_bytes());
     Ok((effect, Next::Idle))
 }
 
 /// Gathers a frame of the running command: extra bytes are dropped by a write, refused by a list.
-fn gather(step: CanStep, session: &mut Session, frame: &Frame, memories: &mut Memories, frames: &mut Frames) -> Result<Done, Refused> {
-    require(frame.id == frames.id, Refused::OtherId(Miss::by_high_byte(frame.id as u8 == frames.id as u8)))?;
-    require(frame.dlc > 0, Refused::DlcZero)?;
+fn gather(step: CanStep, session: &mut Session, frame: &Frame, memories: &mut Memories, frames: &mut Frames) -> Result<Done, Refusal> {
     let room = session.left();
-    let fits = frame.dlc <= room || step == CanStep::WriteData;
-    require(fits, Refused::ExtraBytes(Miss::of(frame.dlc, 1, room)))?;
+    let tests = [
+        broken_if(frame.id != frames.id, Refused::OtherId(Miss::by_high_byte(frame.id as u8 == frames.id as u8))),
+        broken_if(frame.dlc == 0, Refused::DlcZero),
+        broken_if(frame.dlc > room && step != CanStep::WriteData, Refused::ExtraBytes(Miss::of(frame.dlc, 1, room))),
+    ];
+    let mut gathered = *session;
     for byte in frame.data().iter().take(room) {
-        session.stage(*byte);
+        gathered.stage(*byte);
     }
-    if !session.has_all() {
+    if !gathered.has_all() {
+        judge(&[&tests])?;
+        *session = gathered;
         return Ok((Effect::Waits, Next::Same));
     }
-    let (effect, next) = end_gathering(step, session, memories)?;
+    let (effect, next) = end_gathering(step, &gathered, memories, &tests)?;
     frames.send(&[ACK]);
     let padded = frame.dlc > room;
     Ok((if padded { Effect::WrotePadded } else { effect }, next))
 }
 
-/// Ends a command that has gathered all it expects; idle gathers nothing.
-fn end_gathering(step: CanStep, session: &Session, memories: &mut Memories) -> Result<Done, Refused> {
-    let bytes = &session.staged[..session.expected];
+/// Ends a command that has all it expects, or would have if its last frame were used; idle gathers nothing.
+fn end_gathering(step: CanStep, gathered: &Session, memories: &mut Memories, of_frame: &[Test]) -> Result<Done, Refusal> {
+    let bytes = &gathered.staged[..gathered.expected];
     match step {
-        CanStep::Idle => Err(Refused::Unknown(Miss::Far)),
-        CanStep::WriteData => effects::write(memories, session.address, bytes, Ok(())),
-        CanStep::EraseList => effects::erase_list(memories, bytes, Ok(())),
-        CanStep::ProtectList => effects::protect_only(memories, bytes, Ok(())),
+        CanStep::Idle => unreachable!("an idle board gathers nothing"),
+        CanStep::WriteData => effects::write(memories, gathered.address, bytes, of_frame),
+        CanStep::EraseList => effects::erase_list(memories, bytes, of_frame),
+        CanStep::ProtectList => effects::protect_only(memories, bytes, of_frame),
     }
 }

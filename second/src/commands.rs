@@ -2,6 +2,7 @@
 
 use crate::board::{BID, PRODUCT_ID, PROJECT_ID, PROTOCOL_VERSION};
 use crate::near::Miss;
+use crate::refused::Refused;
 
 pub const GET_COMMANDS: u16 = 0x00;
 pub const GET_VERSION: u16 = 0x01;
@@ -57,8 +58,6 @@ pub enum EraseSelector {
     List(usize),
     /// 0xFFFB to 0xFFFF: a special erase.
     Special(u32),
-    /// 32 to 0xFFFA: refused at once.
-    Other(Miss),
 }
 
 impl EraseSelector {
@@ -71,17 +70,17 @@ impl EraseSelector {
     /// The last special selector.
     pub const LAST_SPECIAL: u16 = 0xFFFF;
 
-    /// Reads a selector from its two bytes, high first.
-    pub fn from_bytes(high: u8, low: u8) -> EraseSelector {
+    /// Reads a selector from its two bytes, high first; those from 32 to 0xFFFA are refused at once.
+    pub fn from_bytes(high: u8, low: u8) -> Result<EraseSelector, Refused> {
         let selector = u16::from_be_bytes([high, low]);
         if selector <= EraseSelector::LAST_COUNT {
-            EraseSelector::List(count_sent_as_one_less(selector))
+            Ok(EraseSelector::List(count_sent_as_one_less(selector)))
         } else if selector >= EraseSelector::FIRST_SPECIAL {
-            EraseSelector::Special(u32::from(selector))
+            Ok(EraseSelector::Special(u32::from(selector)))
         } else if selector + 1 == EraseSelector::FIRST_SPECIAL {
-            EraseSelector::Other(Miss::Before)
+            Err(Refused::Selector(Miss::Before))
         } else {
-            EraseSelector::Other(Miss::of(usize::from(selector), 0, usize::from(EraseSelector::LAST_COUNT)))
+            Err(Refused::Selector(Miss::of(usize::from(selector), 0, usize::from(EraseSelector::LAST_COUNT))))
         }
     }
 }

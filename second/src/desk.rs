@@ -1,10 +1,11 @@
-//! The program `desk`: it reads lines in chunks, talks to one board and prints the answers.
+//! The program `desk`: it reads lines in chunks, talks to one board and prints the answers, and why each NACK fell if that is asked.
 
-use crate::calls::{can_frame_in_place, uart_byte_in_place, CAN_REPLY_BYTES};
+use crate::calls::{can_frame_in_place, uart_byte_in_place, Cause, Taken, CAN_REPLY_BYTES};
 use crate::frame::{frame_bytes, FRAME_BYTES, FRAME_HEAD_BYTES};
 use crate::hex::{print_byte, print_digit, print_fields};
 use crate::line::{Line, LINE_BYTES, LINE_CHARACTERS};
 use crate::memories::Store;
+use crate::refused::Reason;
 use crate::session::Session;
 use std::io::{self, ErrorKind, Read, Write};
 
@@ -22,17 +23,22 @@ pub struct Desk {
     reply: [u8; CAN_REPLY_BYTES],
     held: Vec<u8>,
     lines: u64,
+    /// Tells whether the reasons of NACKs are printed, and those of the line that is answered, each with its place.
+    why: bool,
+    nacks: Vec<(Reason, u16)>,
 }
 
 impl Desk {
     /// A fresh board, just powered, and no line read yet.
-    pub fn fresh() -> Desk {
+    pub fn fresh(why: bool) -> Desk {
         Desk {
             store: Store::fresh(),
             session: Session::power_on(),
             reply: [0; CAN_REPLY_BYTES],
             held: Vec::with_capacity(LINE_CHARACTERS + 1),
             lines: 0,
+            why,
+            nacks: Vec::new(),
         }
     }
 
@@ -86,14 +92,30 @@ impl Desk {
             Line::PowerOn => self.session = Session::power_on(),
         }
         answers.push(LF);
+        self.tell_why(answers);
+    }
+
+    /// Prints the reason and the place of each NACK of a line, a line each, if that is asked, and forgets them.
+    fn tell_why(&mut self, answers: &mut Vec<u8>) {
+        for (reason, place) in self.nacks.drain(..).filter(|_| self.why) {
+            answers.extend_from_slice(format!("! {} {place} {}\n", reason.number(), reason.words()).as_bytes());
+        }
+    }
+
+    /// Keeps why a call's NACK fell, and gives the length of its reply.
+    fn replied(&mut self, called: Result<Taken, Cause>) -> usize {
+        let Ok(taken) = called else {
+            return 0;
+        };
+        self.nacks.extend(taken.reason().map(|reason| (reason, taken.place)));
+        taken.length
     }
 
     /// Gives the board UART bytes and prints the joined replies; a refused call adds nothing.
     fn talk_uart(&mut self, bytes: &[u8], answers: &mut Vec<u8>) {
-        let memories = &mut self.store.lend();
         for byte in bytes {
-            let called = uart_byte_in_place(&mut self.session, *byte, memories, &mut self.reply);
-            let length = called.map_or(0, |taken| taken.length);
+            let called = uart_byte_in_place(&mut self.session, *byte, &mut self.store.lend(), &mut self.reply);
+            let length = self.replied(called);
             print_fields(&self.reply[..length], answers);
         }
     }
@@ -101,18 +123,17 @@ impl Desk {
     /// Gives the board one CAN frame and prints the reply frames; a refused call adds nothing.
     fn talk_can(&mut self, id: u16, data: &[u8], answers: &mut Vec<u8>) {
         let frame = frame_bytes(id, data);
-        let memories = &mut self.store.lend();
-        let called = can_frame_in_place(&mut self.session, &frame, memories, &mut self.reply);
-        let length = called.map_or(0, |taken| taken.length);
+        let called = can_frame_in_place(&mut self.session, &frame, &mut self.store.lend(), &mut self.reply);
+        let length = self.replied(called);
         for replied in self.reply[..length].chunks_exact(FRAME_BYTES) {
             print_frame(replied, answers);
         }
     }
 }
 
-/// Runs a fresh desk to the end of the input, with at most one write for each read.
-pub fn run(input: &mut impl Read, output: &mut impl Write) -> io::Result<()> {
-    let mut desk = Desk::fresh();
+/// Runs a fresh desk, which tells why NACKs fell or not, to the end of the input, with at most one write for each read.
+pub fn run(why: bool, input: &mut impl Read, output: &mut impl Write) -> io::Result<()> {
+    let mut desk = Desk::fresh(why);
     let mut chunk = vec![0; CHUNK_BYTES];
     let mut answers = Vec::new();
     loop {

@@ -4,13 +4,14 @@ use crate::board::{
     memory_of, Memory, ACCESS_BYTE, ACCESS_LOCKED, ACCESS_OPEN, ERASED, FLASH, SECTORS, SECTOR_BITS_BYTES, SECTOR_BITS_FIRST, SECTOR_BYTES,
     USD,
 };
-use crate::commands::{ACCESS_PROTECT, ACCESS_UNPROTECT, UNPROTECT};
+use crate::commands::{is_protected, ACCESS_PROTECT, ACCESS_UNPROTECT, UNPROTECT};
 use crate::crc::crc32_mpeg2_of_words;
 use crate::ends::Effect;
 use crate::memories::Memories;
 use crate::near::{Edge, Miss, Outside, Span, Which};
-use crate::refused::{require, Refused};
+use crate::refused::{broken_if, judge, judged, Refusal, Refused, Test};
 use crate::session::Next;
+use std::ops::Range;
 
 /// The special erase selector of the first bank, which is all flash.
 const ERASE_BANK_1: u32 = 0xFFFE;
@@ -27,12 +28,14 @@ const MOST: usize = 256;
 /// What an obeyed input did, and where the session goes.
 pub type Done = (Effect, Next);
 
-/// A check that a carrier has beside the rules; it is tested last, so that it alone refuses what it refuses.
-pub type Last = Result<(), Refused>;
-
 /// Tells whether access protection is on.
 pub fn protection_is_on(usd: &[u8]) -> bool {
     usd[ACCESS_BYTE] != ACCESS_OPEN
+}
+
+/// Tests whether a command is protected while protection is on.
+pub fn locked(command: u16, memories: &Memories) -> Test {
+    broken_if(is_protected(command) && protection_is_on(memories.usd), Refused::Protected)
 }
 
 /// Tells whether a sector is write-protected: bit k mod 8 of USD byte 8 + k/8 is 0.
@@ -40,16 +43,27 @@ pub fn sector_is_protected(usd: &[u8], sector: usize) -> bool {
     usd[SECTOR_BITS_FIRST + sector / 8] & (1 << (sector % 8)) == 0
 }
 
-/// Refuses if one of these sectors is write-protected.
-fn none_is_protected(usd: &[u8], sectors: impl Iterator<Item = usize>) -> Result<(), Refused> {
+/// Tests whether one of these sectors is write-protected.
+fn protected_among(usd: &[u8], sectors: impl Iterator<Item = usize>) -> Test {
     let protected = sectors.map(|sector| sector_is_protected(usd, sector));
-    Which::refused(protected).map_or(Ok(()), |which| Err(Refused::ProtectedSector(which)))
+    Which::refused(protected).map(Refused::ProtectedSector)
 }
 
-/// The memory of an address, and where in it; an address that is in no region is refused.
-pub fn in_a_region(address: u32) -> Result<(Memory, Edge), Refused> {
-    let (memory, offset) = memory_of(address, 1).ok_or(Refused::NoRegion(Outside::of(address, 1)))?;
-    Ok((memory, Edge::of(offset, 0, memory.region().bytes - 1)))
+/// Tests whether an address is in no region.
+fn no_region(address: u32) -> Test {
+    broken_if(memory_of(address, 1).is_none(), Refused::NoRegion(Outside::of(address, 1)))
+}
+
+/// Tests whether X bytes begin in a region and leave it.
+fn leaves(address: u32, x: usize) -> Test {
+    let leaves = memory_of(address, 1).is_some() && memory_of(address, x).is_none();
+    broken_if(leaves, Refused::Range(Outside::of(address, x)))
+}
+
+/// The memory of an address, and where in it; an address that is in no region is refused, or one that breaks a rule of the carrier.
+pub fn in_a_region(address: u32, of_carrier: &[Test]) -> Result<(Memory, Edge), Refusal> {
+    let found = memory_of(address, 1).map(|(memory, offset)| (memory, Edge::of(offset, 0, memory.region().bytes - 1)));
+    judged(&[of_carrier, &[no_region(address)]], found)
 }
 
 /// What is told of X bytes of a memory, which now are these.
@@ -78,8 +92,8 @@ fn fresh_if(fresh: bool) -> Span {
 }
 
 /// The X bytes from an address on, when they all lie in one region.
-pub fn read<'m>(memories: &'m Memories, address: u32, x: usize) -> Result<(Effect, &'m [u8]), Refused> {
-    let (memory, offset) = memory_of(address, x).ok_or(Refused::Range(Outside::of(address, x)))?;
+pub fn read<'m>(memories: &'m Memories, address: u32, x: usize, of_carrier: &[Test]) -> Result<(Effect, &'m [u8]), Refusal> {
+    let (memory, offset) = judged(&[of_carrier, &[no_region(address), leaves(address, x)]], memory_of(address, x))?;
     let bytes: &[u8] = match memory {
         Memory::Flash => memories.flash,
         Memory::Sram => memories.sram,
@@ -89,27 +103,33 @@ pub fn read<'m>(memories: &'m Memories, address: u32, x: usize) -> Result<(Effec
     Ok((Effect::Read(memory, span(memory, offset, bytes)), bytes))
 }
 
-/// Where X bytes may be written: valid range, no protected sector touched, USD only whole.
-pub fn writable(memories: &Memories, address: u32, x: usize) -> Result<(Memory, usize), Refused> {
-    let (memory, offset) = memory_of(address, x).ok_or(Refused::Range(Outside::of(address, x)))?;
-    match memory {
-        Memory::Flash => {
-            let touched = offset / SECTOR_BYTES..(offset + x).div_ceil(SECTOR_BYTES);
-            none_is_protected(memories.usd, touched)?;
-        }
-        Memory::Sram => {}
-        Memory::Usd => {
-            let miss = if offset > 0 { Miss::Behind } else { Miss::of(x, USD.bytes, USD.bytes) };
-            require(offset == 0 && x == USD.bytes, Refused::UsdRule(miss))?;
-        }
+/// The sectors of flash in which one of X bytes lies, wherever they begin and end.
+fn touched(address: u32, x: usize) -> Range<usize> {
+    let [first, end] = [u64::from(address), u64::from(address) + x as u64];
+    let [flash, behind] = [FLASH.first, FLASH.end()].map(u64::from);
+    let [first, end] = [first, end].map(|place| (place.clamp(flash, behind) - flash) as usize);
+    if first == end {
+        return 0..0;
     }
-    Ok((memory, offset))
+    first / SECTOR_BYTES..end.div_ceil(SECTOR_BYTES)
 }
 
-/// Writes the data where it may go, or refuses it whole; what `last` says is tested last.
-pub fn write(memories: &mut Memories, address: u32, data: &[u8], last: Last) -> Result<Done, Refused> {
-    let (memory, offset) = writable(memories, address, data.len())?;
-    last?;
+/// Tests whether bytes in USD are other than the whole of it.
+fn usd_in_part(address: u32, x: usize) -> Test {
+    let miss = if address > USD.first { Miss::Behind } else { Miss::of(x, USD.bytes, USD.bytes) };
+    broken_if(USD.holds(address) && (address, x) != (USD.first, USD.bytes), Refused::UsdRule(miss))
+}
+
+/// Where X bytes may be written: valid range, no protected sector touched, USD only whole.
+pub fn writable(memories: &Memories, address: u32, x: usize, of_carrier: &[Test]) -> Result<(Memory, usize), Refusal> {
+    let protected = protected_among(memories.usd, touched(address, x));
+    let rules = [no_region(address), leaves(address, x), usd_in_part(address, x), protected];
+    judged(&[of_carrier, &rules], memory_of(address, x))
+}
+
+/// Writes the data where it may go, or refuses it whole.
+pub fn write(memories: &mut Memories, address: u32, data: &[u8], of_carrier: &[Test]) -> Result<Done, Refusal> {
+    let (memory, offset) = writable(memories, address, data.len(), of_carrier)?;
     let border = at_border(memories, memory, offset, data.len());
     let (bytes, next) = match memory {
         Memory::Flash => (&mut *memories.flash, Next::Idle),
@@ -138,10 +158,8 @@ fn at_border(memories: &Memories, memory: Memory, offset: usize, x: usize) -> Op
 }
 
 /// Erases the sectors named by two-byte numbers, high first, or refuses the whole list.
-pub fn erase_list(memories: &mut Memories, list: &[u8], last: Last) -> Result<Done, Refused> {
-    all_are_sectors(sector_numbers(list))?;
-    none_is_protected(memories.usd, sector_numbers(list))?;
-    last?;
+pub fn erase_list(memories: &mut Memories, list: &[u8], of_carrier: &[Test]) -> Result<Done, Refusal> {
+    judge(&[of_carrier, &erasable(memories, list)])?;
     let mut bytes = Span::Fresh;
     for sector in sector_numbers(list) {
         let sector = &mut memories.flash[sector * SECTOR_BYTES..][..SECTOR_BYTES];
@@ -152,12 +170,19 @@ pub fn erase_list(memories: &mut Memories, list: &[u8], last: Last) -> Result<Do
     Ok((Effect::ErasedList(Span::of(list.len() / 2, SECTORS, named(SECTORS - 1), named(0), bytes)), Next::Idle))
 }
 
-/// Refuses if one of these numbers is over 31.
-fn all_are_sectors(numbers: impl Iterator<Item = usize> + Clone) -> Result<(), Refused> {
+/// What a list of sectors to erase breaks: a number is over 31, or one of the others is that of a write-protected sector.
+fn erasable(memories: &Memories, list: &[u8]) -> [Test; 2] {
+    let protected = |sector| sector < SECTORS && sector_is_protected(memories.usd, sector);
+    let which = Which::refused(sector_numbers(list).map(protected));
+    [no_sector(sector_numbers(list)), which.map(Refused::ProtectedSector)]
+}
+
+/// Tests whether one of these numbers is over 31.
+fn no_sector(numbers: impl Iterator<Item = usize> + Clone) -> Test {
     let mut over = numbers.clone().filter(|number| *number >= SECTORS);
     let miss = over.next().map_or(Miss::Far, |number| Miss::of(number, 0, SECTORS - 1));
     let which = Which::refused(numbers.map(|number| number >= SECTORS));
-    which.map_or(Ok(()), |which| Err(Refused::SectorNumber(which, miss)))
+    which.map(|which| Refused::SectorNumber(which, miss))
 }
 
 /// The two-byte sector numbers of a list, high first.
@@ -165,27 +190,34 @@ fn sector_numbers(list: &[u8]) -> impl Iterator<Item = usize> + Clone + '_ {
     list.chunks_exact(2).map(|pair| usize::from(u16::from_be_bytes([pair[0], pair[1]])))
 }
 
+/// What a special erase breaks: only two selectors erase, and these name all flash.
+pub fn erasable_by(memories: &Memories, selector: u32) -> Test {
+    let protected = protected_among(memories.usd, 0..SECTORS);
+    match selector {
+        ERASE_ALL | ERASE_BANK_1 => protected,
+        _ if protected.is_some() => Some(Refused::SpecialEraseOfProtected),
+        _ if selector == ERASE_BANK_1 - 1 => Some(Refused::SpecialErase(Miss::Before)),
+        _ => Some(Refused::SpecialErase(Miss::by_high_byte(selector & ERASE_ALL >= ERASE_BANK_1))),
+    }
+}
+
 /// Erases all flash for the two selectors that mean it, unless a sector is write-protected.
-pub fn erase_special(memories: &mut Memories, selector: u32, last: Last) -> Result<Done, Refused> {
-    let all_flash = selector == ERASE_ALL || selector == ERASE_BANK_1;
-    let miss = match selector {
-        _ if none_is_protected(memories.usd, 0..SECTORS).is_err() => Miss::Far,
-        _ if selector == ERASE_BANK_1 - 1 => Miss::Before,
-        _ => Miss::by_high_byte(selector & ERASE_ALL >= ERASE_BANK_1),
-    };
-    require(all_flash, Refused::SpecialErase(miss))?;
-    none_is_protected(memories.usd, 0..SECTORS)?;
-    last?;
+pub fn erase_special(memories: &mut Memories, selector: u32, of_carrier: &[Test]) -> Result<Done, Refusal> {
+    judge(&[of_carrier, &[erasable_by(memories, selector)]])?;
     let bytes = used(Memory::Flash, memories.flash);
     memories.flash.fill(ERASED);
     Ok((Effect::ErasedAll(Edge::of(selector as usize, ERASE_BANK_1 as usize, ERASE_ALL as usize), bytes), Next::Idle))
 }
 
+/// What a list of sectors to protect breaks.
+fn protectable(indexes: &[u8]) -> Test {
+    no_sector(indexes.iter().map(|index| usize::from(*index)))
+}
+
 /// Makes the indexed sectors the only protected ones, then reset, or refuses all.
-pub fn protect_only(memories: &mut Memories, indexes: &[u8], last: Last) -> Result<Done, Refused> {
+pub fn protect_only(memories: &mut Memories, indexes: &[u8], of_carrier: &[Test]) -> Result<Done, Refusal> {
     let sectors = indexes.iter().map(|index| usize::from(*index));
-    all_are_sectors(sectors.clone())?;
-    last?;
+    judge(&[of_carrier, &[protectable(indexes)]])?;
     let mut bits = NO_SECTOR_PROTECTED;
     for sector in sectors.clone() {
         bits[sector / 8] &= !(1 << (sector % 8));
@@ -201,7 +233,7 @@ pub fn protect_only(memories: &mut Memories, indexes: &[u8], last: Last) -> Resu
 pub fn resetting(command: u16, memories: &mut Memories) -> Done {
     let effect = match command {
         UNPROTECT => {
-            let bits = fresh_if(none_is_protected(memories.usd, 0..SECTORS).is_ok());
+            let bits = fresh_if(protected_among(memories.usd, 0..SECTORS).is_none());
             set_sector_bits(memories, NO_SECTOR_PROTECTED);
             Effect::ReleasedSectors(bits)
         }
@@ -235,27 +267,36 @@ fn access_unprotect(memories: &mut Memories) -> Effect {
 }
 
 /// Refuses a jump unless its address is in flash or SRAM.
-pub fn jump(address: u32) -> Result<Done, Refused> {
-    let outside = Refused::JumpAddress(Outside::of(address, 1));
-    let (memory, edge) = in_a_region(address).map_err(|_| outside)?;
-    require(memory != Memory::Usd, outside)?;
-    Ok((Effect::Jumped(memory, edge), Next::Running(address)))
+pub fn jump(address: u32, of_carrier: &[Test]) -> Result<Done, Refusal> {
+    let target = memory_of(address, 1).filter(|(memory, _)| *memory != Memory::Usd);
+    let outside = broken_if(target.is_none(), Refused::JumpAddress(Outside::of(address, 1)));
+    let (memory, offset) = judged(&[of_carrier, &[outside]], target)?;
+    Ok((Effect::Jumped(memory, Edge::of(offset, 0, memory.region().bytes - 1)), Next::Running(address)))
+}
+
+/// Tests whether an address is not a sector start in flash.
+fn no_sector_start(address: u32) -> Test {
+    let starts = FLASH.offset_of(address, 1).is_some_and(|offset| offset.is_multiple_of(SECTOR_BYTES));
+    broken_if(!starts, Refused::SectorStart(Outside::of(address, 1)))
 }
 
 /// The sector that starts at an address; an address that is not a sector start in flash is refused.
-pub fn sector_start(address: u32) -> Result<usize, Refused> {
-    let outside = Refused::SectorStart(Outside::of(address, 1));
-    let offset = FLASH.offset_of(address, 1).ok_or(outside)?;
-    require(offset.is_multiple_of(SECTOR_BYTES), outside)?;
+pub fn sector_start(address: u32, of_carrier: &[Test]) -> Result<usize, Refusal> {
+    let offset = judged(&[of_carrier, &[no_sector_start(address)]], FLASH.offset_of(address, 1))?;
     Ok(offset / SECTOR_BYTES)
 }
 
+/// Tests whether so many sectors' bytes begin in flash and leave it.
+fn sectors_leave(address: u32, sectors: usize) -> Test {
+    let most = FLASH.end().saturating_sub(address) as usize / SECTOR_BYTES;
+    broken_if(FLASH.holds(address) && sectors > most, Refused::SectorRange(Miss::of(sectors, 1, most)))
+}
+
 /// The CRC over the words of whole sectors from a sector start on, all inside flash.
-pub fn firmware_crc(memories: &Memories, address: u32, sectors: usize) -> Result<(Effect, u32), Refused> {
-    let first = sector_start(address)?;
+pub fn firmware_crc(memories: &Memories, address: u32, sectors: usize, of_carrier: &[Test]) -> Result<(Effect, u32), Refusal> {
     let bytes = sectors * SECTOR_BYTES;
-    let range = Refused::SectorRange(Miss::of(sectors, 1, SECTORS - first));
-    let offset = FLASH.offset_of(address, bytes).ok_or(range)?;
+    let offset = judged(&[of_carrier, &[no_sector_start(address), sectors_leave(address, sectors)]], FLASH.offset_of(address, bytes))?;
+    let first = offset / SECTOR_BYTES;
     let summed = &memories.flash[offset..offset + bytes];
     let (groups, rest) = summed.as_chunks();
     debug_assert!(rest.is_empty());

@@ -3,7 +3,7 @@
 use crate::board::Memory;
 use crate::calls::Cause;
 use crate::near::{Edge, Miss, Span};
-use crate::refused::Refused;
+use crate::refused::{Reason, Refused};
 use crate::session::{CanStep, Step, UartStep, Unsound, CARRIER_NONE, CARRIER_RUNNING};
 use crate::steps;
 
@@ -44,8 +44,10 @@ pub enum Effect {
 #[derive(Clone, Copy, Debug, PartialEq, Eq, PartialOrd, Ord)]
 pub enum End {
     Cause(Cause),
-    /// The answer ended with NACK.
+    /// The answer ended with NACK, and no other reason held than that of the rule.
     Nack(Refused),
+    /// It ended with NACK for the first reason, and the second is the next that held too.
+    NackOfBoth(Reason, Reason),
     Did(Effect),
 }
 

@@ -164,11 +164,13 @@ impl Input {
         }
     }
 
-    /// Spoils one thing.
+    /// Spoils one thing, now and then two.
     pub fn spoil(&mut self, dice: &mut Dice) {
-        match self {
-            Input::Bytes(bytes) => spoil_bytes(bytes, dice),
-            Input::Frame(id, data) => spoil_frame(id, data, dice),
+        for _ in 0..dice.one_of(&[1, 1, 2]) {
+            match self {
+                Input::Bytes(bytes) => spoil_bytes(bytes, dice),
+                Input::Frame(id, data) => spoil_frame(id, data, dice),
+            }
         }
     }
 }
@@ -227,15 +229,16 @@ fn spoil_bytes(bytes: &mut Vec<u8>, dice: &mut Dice) {
     }
 }
 
-/// Gives a frame another ID, cuts, empties or pads it, or flips a bit.
-pub fn spoil_frame(id: &mut u16, data: &mut Vec<u8>, dice: &mut Dice) {
-    match dice.below(6) {
+/// Gives a frame another ID, cuts, empties or pads it, by one byte or by more, or flips a bit.
+fn spoil_frame(id: &mut u16, data: &mut Vec<u8>, dice: &mut Dice) {
+    let longer = dice.between(data.len(), FRAME_DATA_BYTES);
+    let one_more = FRAME_DATA_BYTES.min(data.len() + 1);
+    match dice.below(8) {
         0 | 1 => *id = other_id(*id, dice),
-        2 => data.truncate(dice.one_of(&[0, 0, 1, 2, 3, 4, data.len().saturating_sub(1)])),
-        3 | 4 => {
-            let longer = dice.between(data.len(), FRAME_DATA_BYTES);
-            data.resize(longer, dice.byte());
-        }
+        2 => data.truncate(dice.one_of(&[0, 0, 1, 2, 3, 4])),
+        3 | 4 => data.truncate(data.len().saturating_sub(1)),
+        5 => data.resize(one_more, dice.byte()),
+        6 => data.resize(longer, dice.byte()),
         _ => {
             if let Some(byte) = data.last_mut() {
                 *byte = dice.wrong(*byte);

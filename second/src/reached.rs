@@ -4,6 +4,7 @@ use crate::calls::{Cause, Taken};
 use crate::can::running_id;
 use crate::commands::{CAN_LIST, UART_LIST};
 use crate::ends::{End, Given, Kind, Met, ANOTHER};
+use crate::refused::Refusal;
 use crate::session::{CanStep, Session, Step, UartStep};
 use std::collections::BTreeMap;
 use std::fmt;
@@ -17,7 +18,7 @@ impl Met {
         let at = Step::named(before.carrier, before.step);
         let end = match called {
             Err(cause) => End::Cause(*cause),
-            Ok(taken) => taken.ended.map_or_else(End::Nack, End::Did),
+            Ok(taken) => taken.ended.map_or_else(refused, End::Did),
         };
         let command = match (given, at, end) {
             (_, _, End::Cause(_)) => None,
@@ -35,6 +36,11 @@ impl Met {
             _ => self.command,
         }
     }
+}
+
+/// How an input ended that was refused, by one reason or by the first of more.
+fn refused(Refusal { rule, also }: Refusal) -> End {
+    also.map_or(End::Nack(rule), |also| End::NackOfBoth(rule.reason(), also))
 }
 
 /// A command of the list, whose first byte is the version, or `ANOTHER`.

@@ -112,7 +112,7 @@ impl Host {
     /// A line that continues what a board is at, now and then spoilt.
     fn fitting(&mut self, board: &Board, step: Step) -> Vec<u8> {
         let dice = &mut self.dice;
-        let spoilt = dice.once_in(11 + board.session.left() / 2);
+        let spoilt = dice.once_in(8 + board.session.left() / 2);
         let known = Known { locked: protection_is_on(&board.store.usd), recent: board.recent, wanted: self.wanted };
         let mut input = Input::fitting(step, &board.session, known, dice);
         if spoilt {

@@ -135,6 +135,26 @@ impl UartStep {
         UartStep::ALL.get(usize::from(number)).copied()
     }
 
+    /// The step that comes before it in its command.
+    const fn before(self) -> Option<UartStep> {
+        match self {
+            UartStep::Idle => None,
+            UartStep::ReadAddress | UartStep::JumpAddress | UartStep::WriteAddress | UartStep::CrcAddress => Some(UartStep::Idle),
+            UartStep::EraseSelector | UartStep::ProtectLength => Some(UartStep::Idle),
+            UartStep::ReadLength => Some(UartStep::ReadAddress),
+            UartStep::WriteLength => Some(UartStep::WriteAddress),
+            UartStep::WriteData => Some(UartStep::WriteLength),
+            UartStep::SpecialCheck | UartStep::EraseList => Some(UartStep::EraseSelector),
+            UartStep::ProtectList => Some(UartStep::ProtectLength),
+            UartStep::CrcCount => Some(UartStep::CrcAddress),
+        }
+    }
+
+    /// How many bytes of the command come before the step's first; the steps before it always expect the same number.
+    fn bytes_before(self) -> usize {
+        self.before().map_or(0, |before| before.bytes_before() + before.expects().least)
+    }
+
     /// What the step may expect.
     pub const fn expects(self) -> Expects {
         match self {
@@ -297,6 +317,16 @@ impl Session {
             taken if taken >= self.expected => Err(Unsound::Taken(Edge::of(taken, self.expected, usize::MAX))),
             _ => Ok(step),
         }
+    }
+
+    /// Where a NACK falls that this session meets at its step: on UART at the step's last byte, counted from the command's first, and on CAN
+    /// behind so many bytes that were gathered before the frame.
+    pub(crate) fn place(&self, step: Step) -> u16 {
+        let place = match step {
+            Step::Uart(step) => step.bytes_before() + self.expected,
+            Step::None | Step::Can(_) | Step::Running => self.taken,
+        };
+        place as u16
     }
 
     /// Tells whether no command is under way.

@@ -9,10 +9,11 @@ use crate::commands::{
 use crate::ends::{Effect, End, ANOTHER};
 use crate::inputs::{Check, Item};
 use crate::near::{Edge, Miss, Outside, Span, Which};
-use crate::refused::Refused;
+use crate::refused::{Reason, Refused};
 use crate::session::Step::{Can, Uart};
 use crate::session::{CanStep, Expects, Step, UartStep};
-use Ends::{All, BeginsOutside, Begun, Did, Edges, Entered, EnteredIn, In, Leaves, Missed, Nack, NoSectors, Sectors, Spans};
+use std::collections::BTreeSet;
+use Ends::{All, BeginsOutside, Begun, Both, Did, Edges, Entered, EnteredIn, In, Leaves, Missed, Nack, NoSectors, Sectors, Spans};
 
 /// What a host sends at a step, the check behind it, how that can end, and how it can only in sessions that no talk reaches.
 #[derive(Clone, Copy, Debug)]
@@ -41,9 +42,9 @@ fn uart_row(step: UartStep) -> Row {
         UartStep::JumpAddress => Row(&[Address], Check::Xor, &[JUMP_ENDS], &[]),
         UartStep::WriteAddress => Row(&[Address], Check::Xor, &[NO_REGION, EnteredIn(Uart(UartStep::WriteLength), &Memory::ALL)], &[]),
         UartStep::CrcAddress => Row(&[Address], Check::Xor, &[NO_SECTOR_START, Entered(Uart(UartStep::CrcCount))], &[]),
-        UartStep::ReadLength => Row(&[Count], Check::Complement, &[Leaves, READ], &[BEGINS_OUTSIDE]),
+        UartStep::ReadLength => Row(&[Count], Check::Complement, &[Leaves, READ], &[NO_REGION]),
         UartStep::WriteLength => Row(&[Count], Check::None, &[Entered(Uart(UartStep::WriteData))], &[]),
-        UartStep::WriteData => Row(&[Data], Check::Xor, &[UNWRITABLE, WROTE], &[BEGINS_OUTSIDE]),
+        UartStep::WriteData => Row(&[Data], Check::Xor, &[UNWRITABLE, WROTE], &[BEGINS_BEFORE_FLASH]),
         UartStep::EraseSelector => {
             Row(&[Selector], Check::None, &[NO_SELECTOR, Entered(Uart(UartStep::EraseList)), Entered(Uart(UartStep::SpecialCheck))], &[])
         }
@@ -51,7 +52,7 @@ fn uart_row(step: UartStep) -> Row {
         UartStep::EraseList => Row(&[Numbers], Check::Xor, &[ERASE_LIST], &[]),
         UartStep::ProtectLength => Row(&[Count], Check::None, &[Entered(Uart(UartStep::ProtectList))], &[]),
         UartStep::ProtectList => Row(&[Indexes], Check::Xor, &[PROTECT_LIST], &[]),
-        UartStep::CrcCount => Row(&[SectorCount], Check::Inverse, &[CRC_ENDS], &[NO_SECTOR_START]),
+        UartStep::CrcCount => Row(&[SectorCount], Check::Inverse, &[CRC_ENDS], &[NO_SECTOR_START, NO_START_AND_LEAVES]),
     }
 }
 
@@ -59,8 +60,8 @@ fn uart_row(step: UartStep) -> Row {
 fn can_row(step: CanStep) -> Row {
     match step {
         CanStep::Idle => Row(&[], Check::None, &[], &[]),
-        CanStep::WriteData => Row(&[Item::Data], Check::Frame, &[Did(Effect::WrotePadded), WROTE], &[BEGINS_OUTSIDE, UNWRITABLE]),
-        CanStep::EraseList => Row(&[Item::Numbers], Check::Frame, &[EXTRA_BYTES, ERASE_LIST], &[]),
+        CanStep::WriteData => Row(&[Item::Data], Check::Frame, &[Did(Effect::WrotePadded), WROTE], &[BEGINS_BEFORE_FLASH, UNWRITABLE]),
+        CanStep::EraseList => Row(&[Item::Numbers], Check::Frame, &[EXTRA_BYTES, EXTRA_AND_PROTECTED, ERASE_LIST], &[]),
         CanStep::ProtectList => Row(&[Item::Indexes], Check::Frame, &[EXTRA_BYTES, PROTECT_LIST], &[]),
     }
 }
@@ -73,17 +74,17 @@ pub fn command_row(command: u16) -> CommandRow {
     match command {
         GET_COMMANDS | GET_VERSION | GET_DEVICE_ID => both(&[Did(Effect::Told)]),
         SPEED => Row(&[Speed], &[Missed(Refused::Speed, &[Miss::Behind, Miss::Far]), Edges(Effect::ChangedSpeed)], &[]),
-        READ_MEMORY => Row(&[Address, Count], &[BEGINS_OUTSIDE, Leaves, READ], &[Begun(UartStep::ReadAddress)]),
+        READ_MEMORY => Row(&[Address, Count], &[NO_REGION, Leaves, READ], &[Begun(UartStep::ReadAddress)]),
         JUMP => Row(&[Address], &[JUMP_ENDS], &[Begun(UartStep::JumpAddress)]),
-        WRITE_MEMORY => Row(&[Address, Count], &[BEGINS_OUTSIDE, UNWRITABLE, BEGUN_WRITE], &[Begun(UartStep::WriteAddress)]),
+        WRITE_MEMORY => Row(&[Address, Count], &[BEGINS_BEFORE_FLASH, UNWRITABLE, BEGUN_WRITE], &[Begun(UartStep::WriteAddress)]),
         ERASE => Row(&[Selector], &[NO_SELECTOR, SPECIAL_ERASE, Entered(Can(CanStep::EraseList))], &[Begun(UartStep::EraseSelector)]),
         PROTECT => Row(&[Count], &[Entered(Can(CanStep::ProtectList))], &[Begun(UartStep::ProtectLength)]),
-        FIRMWARE_CRC => Row(&[Address, SectorCount], &[NO_SECTOR_START, CRC_ENDS], &[Begun(UartStep::CrcAddress)]),
+        FIRMWARE_CRC => Row(&[Address, SectorCount], &[NO_SECTOR_START, NO_START_AND_LEAVES, CRC_ENDS], &[Begun(UartStep::CrcAddress)]),
         UNPROTECT => both(&[Spans(Effect::ReleasedSectors, &Span::USE)]),
         ACCESS_PROTECT => both(&[Did(Effect::Locked)]),
         ACCESS_UNPROTECT => both(&[Spans(Effect::Wiped, &Span::USE), Did(Effect::LeftOpen)]),
         RESET_DEVICE => both(&[Did(Effect::Reset)]),
-        _ => Row(&[Any], &[Missed(Refused::Unknown, &[Miss::HighByte, Miss::Far])], &[Nack(Refused::Unknown(Miss::Far))]),
+        _ => Row(&[Any], &[Missed(Refused::Unknown, &[Miss::HighByte, Miss::Far])], UNKNOWN),
     }
 }
 
@@ -92,6 +93,8 @@ pub fn command_row(command: u16) -> CommandRow {
 pub enum Ends {
     All(&'static [Ends]),
     Nack(Refused),
+    /// Two reasons hold together.
+    Both(Reason, Reason),
     Missed(fn(Miss) -> Refused, &'static [Miss]),
     /// Some sectors are refused, or some numbers that miss the sectors.
     Sectors(&'static [Which]),
@@ -116,6 +119,7 @@ impl Ends {
         match self {
             All(ends) => ends.iter().flat_map(|ends| ends.each()).collect(),
             Nack(rule) => vec![End::Nack(rule)],
+            Both(first, also) => vec![End::NackOfBoth(first, also)],
             Missed(rule, misses) => nacks(rule, misses),
             Sectors(which) => nacks(Refused::ProtectedSector, which),
             NoSectors(misses) => misses.iter().flat_map(|miss| nacks(|which| Refused::SectorNumber(which, *miss), &Which::ALL)).collect(),
@@ -149,9 +153,11 @@ fn dids<T: Copy>(effect: impl Fn(T) -> Effect, near: &[T]) -> Vec<End> {
     near.iter().map(|near| End::Did(effect(*near))).collect()
 }
 
+/// Why a byte that is no command is refused, whose complement may be wrong too.
+const UNKNOWN: &[Ends] = &[Nack(Refused::Unknown(Miss::Far)), Both(Reason::Form, Reason::Unknown)];
+
 /// Why an address, or bytes from there on, are refused that lie in no memory, or at which no sector starts.
 const NO_REGION: Ends = BeginsOutside(Refused::NoRegion);
-const BEGINS_OUTSIDE: Ends = BeginsOutside(Refused::Range);
 const NO_SECTOR_START: Ends = All(&[
     BeginsOutside(Refused::SectorStart),
     Nack(Refused::SectorStart(Outside::In(Memory::Flash))),
@@ -159,12 +165,24 @@ const NO_SECTOR_START: Ends = All(&[
     Nack(Refused::SectorStart(Outside::In(Memory::Usd))),
 ]);
 
+/// Why a write is refused that begins in no memory, before flash too, whose first sector it may touch.
+const BEGINS_BEFORE_FLASH: Ends = All(&[NO_REGION, Both(Reason::Address, Reason::ProtectedSector)]);
+
+/// Sectors begin within one, and leave flash.
+const NO_START_AND_LEAVES: Ends = Both(Reason::Address, Reason::Range);
+
 /// Why a selector, or a list by its length, is refused.
 const NO_SELECTOR: Ends = Missed(Refused::Selector, &[Miss::Before, Miss::Behind, Miss::HighByte, Miss::Far]);
-const EXTRA_BYTES: Ends = Missed(Refused::ExtraBytes, &[Miss::Behind, Miss::Far]);
+const EXTRA_BYTES: Ends = All(&[Missed(Refused::ExtraBytes, &[Miss::Behind, Miss::Far]), Both(Reason::Range, Reason::SectorNumber)]);
+const EXTRA_AND_PROTECTED: Ends = Both(Reason::Range, Reason::ProtectedSector);
 
 /// Why a write is refused by its place and count.
-const UNWRITABLE: Ends = All(&[Leaves, Missed(Refused::UsdRule, &[Miss::Before, Miss::Behind, Miss::Far]), Sectors(&Which::ALL)]);
+const UNWRITABLE: Ends = All(&[
+    Leaves,
+    Missed(Refused::UsdRule, &[Miss::Before, Miss::Behind, Miss::Far]),
+    Sectors(&Which::ALL),
+    Both(Reason::Range, Reason::ProtectedSector),
+]);
 
 /// What can be read; USD is never fresh and has no 256 bytes.
 const READ: Ends = All(&[
@@ -198,29 +216,52 @@ const JUMP_ENDS: Ends = All(&[
 /// How a special erase can end in talks.
 const SPECIAL_ERASE: Ends = All(&[
     Missed(Refused::SpecialErase, &[Miss::Before, Miss::Far]),
+    Nack(Refused::SpecialEraseOfProtected),
     Sectors(&[Which::First, Which::Last, Which::Others]),
     Spans(|span| Effect::ErasedAll(Edge::Least, span), &Span::USE),
     Spans(|span| Effect::ErasedAll(Edge::Most, span), &Span::USE),
 ]);
 
 /// How a list of sectors to erase or to protect, and a count of sectors, can end.
-const ERASE_LIST: Ends =
-    All(&[NoSectors(&[Miss::Behind, Miss::HighByte, Miss::Far]), Sectors(&Which::ALL), Spans(Effect::ErasedList, &Span::PLAIN)]);
+const ERASE_LIST: Ends = All(&[
+    NoSectors(&[Miss::Behind, Miss::HighByte, Miss::Far]),
+    Sectors(&Which::ALL),
+    Both(Reason::SectorNumber, Reason::ProtectedSector),
+    Spans(Effect::ErasedList, &Span::PLAIN),
+]);
 const PROTECT_LIST: Ends = All(&[NoSectors(&[Miss::Behind, Miss::Far]), Spans(Effect::ProtectedSectors, &Span::PLAIN)]);
 const CRC_ENDS: Ends =
     All(&[Missed(Refused::SectorRange, &[Miss::Behind, Miss::HighByte, Miss::Far]), Spans(Effect::Summed, &Span::PLAIN)]);
 
+/// How an input breaks the form that a step wants, whatever else it breaks.
+fn form(check: Check) -> &'static [Ends] {
+    match check {
+        Check::None | Check::Command => &[],
+        Check::Complement | Check::Xor | Check::Inverse | Check::Special => &[Nack(Refused::Checksum)],
+        Check::Frame => &[Nack(Refused::DlcZero), Missed(Refused::OtherId, &[Miss::HighByte, Miss::Far])],
+    }
+}
+
+/// The ends for which a reason of the first ends holds together with one of others, which it comes before.
+fn both(first: &[End], others: &[End]) -> Vec<End> {
+    let reasons = |ends: &[End]| -> BTreeSet<Reason> {
+        let nack = |end: &End| match end {
+            End::Nack(rule) => Some(rule.reason()),
+            _ => None,
+        };
+        ends.iter().filter_map(nack).collect()
+    };
+    let (first, others) = (reasons(first), reasons(others));
+    first.iter().flat_map(|first| others.iter().filter(move |also| *also > first).map(|also| End::NackOfBoth(*first, *also))).collect()
+}
+
 /// How an input that a step hears can end, each end with the command that it was to, if that is known.
 pub fn ends(step: Step) -> Vec<(Option<u16>, End)> {
     let Row(_, check, ends, _) = row(step);
-    let (first, last): (&[Ends], &[Ends]) = match check {
-        Check::None | Check::Command => (&[], &[]),
-        Check::Complement => (&[Nack(Refused::Complement)], &[]),
-        Check::Xor | Check::Inverse | Check::Special => (&[Nack(Refused::Checksum)], &[]),
-        Check::Frame => (&[Nack(Refused::DlcZero)], &[Missed(Refused::OtherId, &[Miss::HighByte, Miss::Far])]),
-    };
-    let waits: &[Ends] = if step.expects() == Expects::just(1) { &[] } else { &[Did(Effect::Waits)] };
-    let of_step = [first, waits, last, ends].map(|ends| All(ends).each()).concat();
+    let (form, ends) = (All(form(check)).each(), All(ends).each());
+    let waits = (step.expects() != Expects::just(1)).then_some(End::Did(Effect::Waits));
+    let of_both = both(&form, &ends);
+    let of_step = [form, waits.into_iter().collect(), of_both, ends].concat();
     let list: &[u8] = match step {
         Uart(UartStep::Idle) => &UART_LIST[1..],
         Can(CanStep::Idle) => &CAN_LIST[1..],
@@ -231,18 +272,24 @@ pub fn ends(step: Step) -> Vec<(Option<u16>, End)> {
     of_step.into_iter().map(|end| (None, end)).chain(of_commands).collect()
 }
 
-/// How a command can end at an idle step: by its form, by protection, or as its row says.
+/// How a command can end at an idle step: by its form, by protection, as its row says, or by two of these.
 fn of_command(command: u16, idle: Step) -> Vec<End> {
     let CommandRow(_, can, uart) = command_row(command);
-    let protected: &[Ends] = if is_protected(command) { &[Nack(Refused::Protected)] } else { &[] };
-    let dlc: &[Ends] = if needed_dlc(command).is_some() { &[Missed(Refused::Dlc, &[Miss::Before, Miss::Behind, Miss::Far])] } else { &[] };
     let on_uart = idle == Uart(UartStep::Idle);
-    let parts = if on_uart { [&[Nack(Refused::Complement)], protected, uart] } else { [protected, dlc, can] };
-    parts.map(|ends| All(ends).each()).concat()
+    let protected: &[Ends] = if is_protected(command) { &[Nack(Refused::Protected)] } else { &[] };
+    let form: &[Ends] = match needed_dlc(command) {
+        _ if on_uart && command != ANOTHER => &[Nack(Refused::Complement)],
+        Some(_) => &[Missed(Refused::Dlc, &[Miss::Before, Miss::Behind, Miss::Far])],
+        None => &[],
+    };
+    let [form, protected, row] = [form, protected, if on_uart { uart } else { can }].map(|ends| All(ends).each());
+    let of_both = [both(&form, &[&protected[..], &row].concat()), both(&protected, &row)].concat();
+    [form, protected, row, of_both].concat()
 }
 
 /// How an input at a step can end only in sessions that no talk reaches.
 pub fn ends_by_hand(step: Step) -> Vec<End> {
-    let Row(.., by_hand) = row(step);
-    All(by_hand).each()
+    let Row(_, check, _, by_hand) = row(step);
+    let by_hand = All(by_hand).each();
+    [both(&All(form(check)).each(), &by_hand), by_hand].concat()
 }

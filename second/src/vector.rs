@@ -1,7 +1,7 @@
 //! A vector: one call on a session and buffers of its own, its line, and the line of the answer to it.
 
 use crate::board::{ACCESS_BYTE, SECTOR_BITS_BYTES, SECTOR_BITS_FIRST};
-use crate::calls::{can_frame_in_place, uart_byte_in_place, Cause, Taken, ACCEPTED};
+use crate::calls::{can_frame_in_place, uart_byte_in_place, Cause, Outcome, Taken};
 use crate::ends::{Given, Met};
 use crate::frame::FRAME_HEAD_BYTES;
 use crate::hex::{print_fields, read_fields};
@@ -214,11 +214,9 @@ impl Vector {
     /// The line of the answer to the vector, ended by LF.
     pub fn answer(&self) -> Vec<u8> {
         let After { called, session, store, reply } = self.call();
-        let (number, length) = match called {
-            Ok(taken) => (ACCEPTED, taken.length),
-            Err(cause) => (cause.number(), 0),
-        };
-        let mut bytes = vec![number];
+        let Outcome { number, reason, place, length, session } = Outcome::of(called, session);
+        let mut bytes = vec![number, reason];
+        bytes.extend(place.to_be_bytes());
         bytes.extend((length as u64).to_be_bytes());
         bytes.extend(&reply[..length]);
         bytes.extend(&Vector::of(&session).bytes[CARRIER..STAGED_RULE]);

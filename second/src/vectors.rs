@@ -6,7 +6,7 @@ use crate::dice::Dice;
 use crate::edges;
 use crate::ends::{End, Kind, Met};
 use crate::frame::{frame_bytes, FRAME_HEAD_BYTES};
-use crate::inputs::{self, Input, Known};
+use crate::inputs::{Input, Known};
 use crate::reached::Reached;
 use crate::script::Walk;
 use crate::session::{Session, Step, CARRIER_CAN, CARRIER_RUNNING, HIGHEST_SPEED};
@@ -116,26 +116,26 @@ impl Maker {
         let dice = &mut self.dice;
         let session = vector.session();
         let fits = !dice.once_in(6);
-        let input = match session.sound_step() {
+        let mut input = match session.sound_step() {
             Ok(step @ (Step::Uart(_) | Step::Can(_))) if fits => Input::fitting(step, &session, self.known, dice),
             Ok(Step::Can(_)) => Input::connect_byte(dice),
             Ok(Step::None | Step::Running) if dice.coin() => Input::connect_byte(dice),
             _ => Input::connect_frame(dice),
         };
         let spoilt = dice.once_in(6);
+        if spoilt && matches!(input, Input::Frame(..)) {
+            input.spoil(dice);
+        }
         match input {
             Input::Bytes(bytes) => vector.put(BYTE, &[if spoilt { dice.wrong(bytes[0]) } else { bytes[0] }]),
-            Input::Frame(id, data) => self.frame(vector, id, data, spoilt),
+            Input::Frame(id, data) => self.frame(vector, id, &data),
         }
     }
 
-    /// Gives a frame, spoilt if it is to be, now and then of a wrong length, or with a DLC that is none.
-    fn frame(&mut self, vector: &mut Vector, mut id: u16, mut data: Vec<u8>, spoilt: bool) {
+    /// Gives a frame, now and then of a wrong length, or with a DLC that is none.
+    fn frame(&mut self, vector: &mut Vector, id: u16, data: &[u8]) {
         let dice = &mut self.dice;
-        if spoilt {
-            inputs::spoil_frame(&mut id, &mut data, dice);
-        }
-        let mut frame = frame_bytes(id, &data).to_vec();
+        let mut frame = frame_bytes(id, data).to_vec();
         let unused = FRAME_HEAD_BYTES + data.len()..;
         frame[unused].fill(dice.one_of(&[0, 0, 0xEE]));
         if dice.once_in(16) {

@@ -11,17 +11,18 @@ const UNTOUCHED: u8 = 0xC3;
 /// What a sent frame holds behind its DLC bytes.
 const PADDING: u8 = 0xEE;
 
-/// A store, a session that every call hands on, and the number of the last call.
+/// A store, a session that every call hands on, the number of the last call, and the reason and place of each NACK.
 pub struct Bench {
     pub store: Store,
     pub session: Session,
     pub number: u8,
+    pub nacks: Vec<(u8, u16)>,
 }
 
 impl Bench {
     /// Fresh memories under any session.
     pub fn at(session: Session) -> Bench {
-        Bench { store: Store::fresh(), session, number: ACCEPTED }
+        Bench { store: Store::fresh(), session, number: ACCEPTED, nacks: vec![] }
     }
 
     /// The fresh board, connected on UART or on CAN.
@@ -49,10 +50,14 @@ impl Bench {
         frames.collect::<Vec<String>>().join(" ")
     }
 
-    /// Hands on a call's session and number, and gives its reply; the buffer behind it is untouched.
+    /// Hands on a call's session and number, and gives its reply; the buffer behind it is untouched, and only a NACK has a reason.
     fn replied<'r>(&mut self, outcome: Outcome, reply: &'r [u8]) -> &'r [u8] {
         let (reply, rest) = reply.split_at(outcome.length);
         assert!(rest.iter().all(|byte| *byte == UNTOUCHED));
+        if outcome.reason > 0 {
+            self.nacks.push((outcome.reason, outcome.place));
+        }
+        assert!(outcome.reason > 0 || outcome.place == 0);
         (self.session, self.number) = (outcome.session, outcome.number);
         reply
     }

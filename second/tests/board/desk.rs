@@ -1,7 +1,9 @@
 //! The lines of `desk`: what is no line, how long one may be, and when answers are written.
 
+use crate::bench;
 use second::desk::run;
 use std::io::{self, BufRead, BufReader, Read, Write};
+use std::path::Path;
 use std::process::{Command, Stdio};
 
 /// The five-line example of document 01, and what it prints, whole.
@@ -11,6 +13,14 @@ const EXAMPLE_OUTPUT: &str = include_str!("../../../expected/example.out");
 /// The worked examples of document 01 as one talk.
 const WORKED: [&str; 2] = [include_str!("../../../expected/worked-talk.in"), include_str!("../../../expected/worked-talk.out")];
 
+/// Lines of which some bring a NACK, or two, and what is printed of them with `--why`.
+const WHY: [&str; 2] = [
+    "U 1F\nU 7F 01 FF 03\n1F\nU FC 01 FE\nU 1F 1F 1F 1F 11\nU EE 08 00 00 00\nU 0F\nP\nC 079\nC 7FF\nC FFF\nC 044 FF FD\nC 021 08 00 00 00\nC 7FF",
+    ">\n> 79 1F\n! 1 2 bad complement or DLC\n? 3\n> 1F 79 20 01 07 79\n! 2 2 unknown command\n\
+     > 1F 1F\n! 1 2 bad complement or DLC\n! 1 2 bad complement or DLC\n> 79\n> 1F\n! 5 7 bad checksum\n>\n> 079:79\n\
+     > 7FF:1F\n! 2 0 unknown command\n>\n> 044:79 044:1F\n! 10 0 unsupported erase\n> 021:79\n>\n",
+];
+
 /// Lines that are none, one behind each bar: wrong fields, digits, spaces and letters.
 const NO_LINES: &str = "||U|U |U 7|U 7f|U 7F |U  7F| U 7F|U7F|u 7F|U 7F\r|U\t7F|U 7F0|U 7F 0|U 7F,80|U 0x7F|U +7|U 7F7F|\
     U 7G|U 7F\0|U 7F #|U\u{A0}7F|U 7F  7F|U 079|U /0|C|C |C 79|C 07|C 079 |C 0079|C  079|C 079 1|C 079 aB|C 07a|C079|c 079|\
@@ -19,7 +29,7 @@ const NO_LINES: &str = "||U|U |U 7|U 7f|U 7F |U  7F| U 7F|U7F|u 7F|U 7F\r|U\t7F|
 /// What desk prints for an input.
 fn desk(input: impl AsRef<[u8]>) -> String {
     let mut output = Vec::new();
-    run(&mut input.as_ref(), &mut output).unwrap();
+    run(false, &mut input.as_ref(), &mut output).unwrap();
     String::from_utf8(output).unwrap()
 }
 
@@ -30,6 +40,15 @@ fn the_examples_byte_for_byte() {
     assert_eq!(desk(WORKED[0]), WORKED[1]);
     assert_eq!(desk(EXAMPLE_INPUT.trim_end()), EXAMPLE_OUTPUT);
     assert_eq!(desk(""), "");
+}
+
+/// With `--why` each NACK of a line has a line of its own behind the answer, in order; a line that is no line and a refused call have none.
+#[test]
+fn why_a_line_was_refused() {
+    let printed = bench::run(Path::new("."), env!("CARGO_BIN_EXE_desk"), "--why", WHY[0]);
+    assert_eq!(printed, (WHY[1].to_owned(), String::new(), 0));
+    let without: String = WHY[1].split_inclusive('\n').filter(|line| !line.starts_with('!')).collect();
+    assert_eq!(desk(WHY[0]), without);
 }
 
 /// "Another line prints `?` and its number from 1, and changes nothing."
@@ -93,12 +112,12 @@ fn chunks_and_writes() {
     for size in 1..EXAMPLE_INPUT.len() {
         let parts = EXAMPLE_INPUT.as_bytes().chunks(size);
         let mut output = Writes(vec![]);
-        run(&mut Parts(parts.map(|part| Ok(part.to_vec())).collect()), &mut output).unwrap();
+        run(false, &mut Parts(parts.map(|part| Ok(part.to_vec())).collect()), &mut output).unwrap();
         assert_eq!(output.0.concat(), EXAMPLE_OUTPUT);
     }
     let parts = ["U 7F\nU 01 ", "FE", "\nP\nC 079\nQ\nU", " 7F"];
     let mut output = Writes(vec![]);
-    run(&mut Parts(parts.map(|part| Ok(part.into())).into()), &mut output).unwrap();
+    run(false, &mut Parts(parts.map(|part| Ok(part.into())).into()), &mut output).unwrap();
     let written = ["> 79\n", "> 79 20 01 07 79\n>\n> 079:79\n? 5\n", ">\n"];
     assert_eq!(output.0, written);
 }
@@ -108,7 +127,7 @@ fn chunks_and_writes() {
 fn interrupted_and_broken_input() {
     let kinds = [io::ErrorKind::Interrupted, io::ErrorKind::BrokenPipe];
     let mut input = Parts(kinds.map(|kind| Err(kind.into())).into());
-    let ended = run(&mut input, &mut Vec::new());
+    let ended = run(false, &mut input, &mut Vec::new());
     assert_eq!(ended.unwrap_err().kind(), io::ErrorKind::BrokenPipe);
 }
 

@@ -12,7 +12,8 @@ const RANDOM: [(&str, &str, &str, usize); 3] =
     [(SCRIPT, "uart", "uart count", 3_000), (SCRIPT, "mixed", "mixed count", 5_000), (VECTORS, "generate", "count", 4_500)];
 
 /// Words that are none of a program's, one behind each bar.
-const OTHER_WORDS: [(&str, &str); 5] = [
+const OTHER_WORDS: [(&str, &str); 6] = [
+    (env!("CARGO_BIN_EXE_desk"), "--help|why|--why --why|--why f|f|--Why|-why"),
     (env!("CARGO_BIN_EXE_image"), "|--help|f|f new|f new x|f new 32768|f new -32769|f new 0x10|f new 0 old more"),
     (env!("CARGO_BIN_EXE_images"), "--help|f 0|f 0 32770|f x 0"),
     (env!("CARGO_BIN_EXE_srecords"), "|--help|x|1 x|1 2 more|1 2 covered 3"),

@@ -24,9 +24,9 @@ fn changed(line: &str, index: usize, bytes: &str) -> String {
     format!("{}{bytes}{}", &line[..start], &line[start + bytes.len()..])
 }
 
-/// The line of an answer: number, reply, the numbers of the session, and digests of five buffers.
-fn answer(number: u8, reply: &str, session: &str, buffers: [&[u8]; 5]) -> String {
-    let mut bytes = vec![number];
+/// The line of an answer: number, reason and place, reply, the numbers of the session, and digests of five buffers.
+fn answer(number: u8, nack: [u8; 3], reply: &str, session: &str, buffers: [&[u8]; 5]) -> String {
+    let mut bytes = [&[number], &nack[..]].concat();
     bytes.extend((hex(reply).len() as u64).to_be_bytes());
     bytes.extend(hex(reply));
     bytes.extend(hex(session));
@@ -43,7 +43,7 @@ fn adler_check_value() {
 /// A line and its answer, written out whole: 7F connects the fresh board.
 #[test]
 fn a_whole_line_and_its_answer() {
-    let printed = "> 00 00 00 00 00 00 00 00 01 79 \
+    let printed = "> 00 00 00 00 00 00 00 00 00 00 00 01 79 \
         01 00 00 00 00 00 00 00 00 00 00 00 00 00 00 00 00 02 00 00 00 00 02 \
         01 01 00 01 7F C2 87 72 20 00 00 01 02 18 3F 67 7A 7A 00 7A\n";
     assert_eq!((BYTE_LINE.len(), answer_to(BYTE_LINE)), (250, printed.to_owned()));
@@ -60,7 +60,29 @@ fn a_read_by_hand() {
     usd[0] = 0xA5;
     reply[..5].copy_from_slice(&[0x79, 0x10, 0x13, 0x16, 0x19]);
     let idle = "01 00 00 00 00 00 00 00 00 00 00 00 00 00 00 00 00 02 00 00 00 00 03";
-    assert_eq!(answer_to(&line), answer(0, "79 10 13 16 19", idle, [&[0; 257], &[0xFF; 32_768], &sram, &usd, &reply]));
+    assert_eq!(answer_to(&line), answer(0, [0; 3], "79 10 13 16 19", idle, [&[0; 257], &[0xFF; 32_768], &sram, &usd, &reply]));
+}
+
+/// The reason is one byte and the place two: a write of 256 bytes outside all regions is refused at byte 265, and 255 gathered bytes before.
+#[test]
+fn nacks_by_hand() {
+    let step = "01 07 00 00 00 00 00 00 01 00 00 00 00 00 00 00 01 01 00 00 00 00 02";
+    let mut usd = [0xFF; 64];
+    usd[0] = 0xA5;
+    let left = |session, reason, place: u16, reply: &str, buffer: &[u8]| {
+        let [high, low] = place.to_be_bytes();
+        answer(0, [reason, high, low], reply, session, [&[0; 257], &[0xFF; 32_768], &[0; 8_192], &usd, buffer])
+    };
+    let idle = "01 00 00 00 00 00 00 00 00 00 00 00 00 00 00 00 00 02 00 00 00 00 02";
+    let mut buffer = [0; 363];
+    buffer[0] = 0x1F;
+    let line = changed(&changed(BYTE_LINE, 0, step), 69, "FF");
+    assert_eq!(answer_to(&line), left(idle, 6, 265, "1F", &buffer[..257]));
+    let step = "02 03 00 00 00 00 00 00 00 FF 00 00 00 00 00 00 01 00 00 00 00 00 02";
+    let idle = "02 00 00 00 00 00 00 00 00 00 00 00 00 00 00 00 00 01 00 00 00 00 02";
+    let line = changed(&changed(BYTE_LINE, 0, step), 64, "00 00 01 6B 00 00 0B 00 63 01 20").replacen('B', "F", 1);
+    buffer[..4].copy_from_slice(&[0x00, 0x63, 0x01, 0x1F]);
+    assert_eq!(answer_to(&line), left(idle, 8, 255, "00 63 01 1F 00 00 00 00 00 00 00", &buffer));
 }
 
 /// A huge session is unsound, then a short frame, a short reply buffer and a short USD come first; nothing changes.
@@ -73,7 +95,7 @@ fn causes_by_hand() {
     let usd = hex("A5 FF FF FF FF FF FF FF FE");
     let mut whole = vec![0xFF; 64];
     whole[0] = 0xA5;
-    let refused = |number, usd: &[u8], reply| answer(number, "", huge, [&rule, &[0xFF; 32_768], &[0; 8_192], usd, reply]);
+    let refused = |number, usd: &[u8], reply| answer(number, [0; 3], "", huge, [&rule, &[0xFF; 32_768], &[0; 8_192], usd, reply]);
     assert_eq!(answer_to(&line), refused(4, &whole, &[0xC3; 363]));
     line = changed(&line, 70, "0A");
     assert_eq!(answer_to(&line), refused(3, &whole, &[0xC3; 363]));
@@ -101,6 +123,19 @@ fn other_lines_are_no_vectors() {
     }
 }
 
+/// A reply that begins with NACK, or ends with it behind the ACK of an erase on CAN, has a reason and nothing else has; only a NACK has a
+/// place, from 2 to 265.
+fn test_nack(replied: &[u8], has_reason: bool, place: u16) {
+    let nack = match replied {
+        [0x1F] => true,
+        [0..=7, _, 1, 0x1F, _, _, _, _, _, _, _] => true,
+        [0, 0x44, .., 1, 0x1F, _, _, _, _, _, _, _] => true,
+        _ => false,
+    };
+    assert_eq!(has_reason, nack, "{replied:02X?}");
+    assert!(if nack { place <= 265 && (replied.len() > 1 || place >= 2) } else { place == 0 });
+}
+
 /// A line of 251 characters is read back as its vector; a refused call leaves everything, an accepted one a sound session.
 #[test]
 fn every_call_keeps_its_promises() {
@@ -111,7 +146,9 @@ fn every_call_keeps_its_promises() {
         let (after, reply) = (vector.call(), vector.reply());
         match after.called {
             Ok(taken) => {
-                assert_eq!(after.reply[taken.length..], reply[taken.length..]);
+                let (replied, rest) = after.reply.split_at(taken.length);
+                assert_eq!(*rest, reply[taken.length..]);
+                test_nack(replied, taken.reason().is_some(), taken.place);
                 assert!(after.session.sound_step().is_ok());
             }
             Err(_) => assert_eq!((after.session, after.store, after.reply), (vector.session(), vector.store(), reply)),
