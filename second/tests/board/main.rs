@@ -1,4 +1,5 @@
-//! Tests of the second board; every expected value is taken from the documents or `expected/`.
+//! Tests of the second board; every expected value is taken from the documents or `expected/`, and in `reasons.talk` from a list of how the
+//! open points of document 02 are read, too.
 
 mod bench;
 mod calls;
