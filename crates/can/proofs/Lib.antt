@@ -1,4 +1,4 @@
 pub mod Steps
 pub mod Carried
 pub mod Good
-mod First
+pub mod First

@@ -82,7 +82,7 @@ guarded true w ts h g = refused-first w ts h
 guarded false w ts h g = passed w g
 
 -- tests that refuse only where something holds: they are all there, or none refuses
-only-if-first : (b : Bool) (ts : List Test) → firstReason (onlyIf b ts) ≡ (if b then firstReason ts else noReason)
+pub only-if-first : (b : Bool) (ts : List Test) → firstReason (onlyIf b ts) ≡ (if b then firstReason ts else noReason)
 unfolding firstReason
 only-if-first true [] = refl
 only-if-first true (t ∷ ts) =
@@ -118,7 +118,7 @@ judged-first (No w) d e r = record { first = r .first }
 -- ---- what the first reason is
 
 -- a reason is not none
-is-some : (w : Why) → eqb (reason w) noReason ≡ false
+pub is-some : (w : Why) → eqb (reason w) noReason ≡ false
 is-some BadComplement = refl
 is-some UnknownCommand = refl
 is-some AccessProtected = refl

@@ -16,7 +16,7 @@ use Rattle.command.specs.Commands.{canCommands, lookUp}
 use Rattle.command.specs.Decision.{if_gives_else_, answer, nack}
 use Rattle.command.specs.Progress.{Progress, short}
 use Rattle.command.specs.Says.{says}
-use Rattle.command.specs.Why.{reason, noReason, reasonOf}
+use Rattle.command.specs.Why.{noReason, reasonOf}
 use Rattle.command.specs.declared.Command.the-variants.{FirmwareCrc}
 use Rattle.command.specs.declared.Decision.{Decision}
 use Rattle.command.specs.declared.Lookup.the-variants.{Known}
@@ -26,8 +26,6 @@ use Rattle.command.specs.declared.Reply.the-variants.{Fixed, Data, Crc}
 use Rattle.command.specs.declared.FixedReply.{FixedReply}
 use Rattle.command.specs.declared.FixedReply.the-variants.{Silence, Ack, AckAck, Nack, AckNack, Commands, Version, DeviceId}
 use Rattle.command.specs.declared.Why.{Why}
-use Rattle.command.specs.declared.Why.the-variants.{BadComplement, UnknownCommand, AccessProtected, OtherFrame, BadChecksum, BadAddress}
-use Rattle.command.specs.declared.Why.the-variants.{BadRange, BadSector, WriteProtected, UnsupportedErase, BadSpeed}
 use Rattle.rules.specs.Rules.{summing}
 use Rattle.uart.specs.Conversation as UC
 use Rattle.uart.specs.declared.Step as US
@@ -41,6 +39,7 @@ use Rattle.boot.specs.Calls.{State, Input, Power, Byte, Framed, commandsOf, vie
 use Rattle.boot.specs.declared.Cause.{Cause}
 use Rattle.boot.specs.declared.Cause.the-variants.{Accepted, WrongMemory, ShortReply, BadFrame, UnsoundSession, BoardRunning}
 use Rattle.boot.specs.declared.Session.{Session}
+use Rattle.command.proofs.First.{is-some}
 use Rattle.command.proofs.Holds.{Holds, either, split}
 use Rattle.rules.proofs.Made.{summing-made}
 use Rattle.rules.proofs.Unless.{unless-either}
@@ -336,27 +335,13 @@ call-seen (Framed room l) p = by-reply (Framed room l) tt p
 
 -- ---- the reason and the place
 
--- every reason has a number
-numbered : (w : Why) → eqb (reason w) noReason ≡ false
-numbered BadComplement = refl
-numbered UnknownCommand = refl
-numbered AccessProtected = refl
-numbered OtherFrame = refl
-numbered BadChecksum = refl
-numbered BadAddress = refl
-numbered BadRange = refl
-numbered BadSector = refl
-numbered WriteProtected = refl
-numbered UnsupportedErase = refl
-numbered BadSpeed = refl
-
 -- a reply that refuses has one, and no other
 some-reason : (r : Reply) → eqb (reasonOf r) noReason ≡ not (refuses r)
 some-reason (Fixed Silence) = refl
 some-reason (Fixed Ack) = refl
 some-reason (Fixed AckAck) = refl
-some-reason (Fixed (Nack w)) = numbered w
-some-reason (Fixed (AckNack w)) = numbered w
+some-reason (Fixed (Nack w)) = is-some w
+some-reason (Fixed (AckNack w)) = is-some w
 some-reason (Fixed Commands) = refl
 some-reason (Fixed Version) = refl
 some-reason (Fixed DeviceId) = refl
@@ -364,7 +349,7 @@ some-reason (Data r at x) = refl
 some-reason (Crc at n) = refl
 
 -- a call tells the reason of what was decided
-reasoned : (i : Input) (p : State) → call i p .reason ≡ reasonOf (done i p .reply)
+pub reasoned : (i : Input) (p : State) → call i p .reason ≡ reasonOf (done i p .reply)
 unfolding call done perform if_gives_else_
 reasoned i p = by-test (accepts (causeFor i p)) (decide i (p .session) (viewIn p))
   where

@@ -1,5 +1,6 @@
 pub mod Talk
 pub mod Longest
+pub mod Reasons
 pub mod Secrecy
 pub mod Runs
 pub mod Failures

@@ -2,6 +2,7 @@
 // so that a check fails where its proof is missing.
 ghost use Rattle.theorems.specs.Talk.{WorkedTalk};
 ghost use Rattle.theorems.specs.Longest.{NoLongerCommand};
+ghost use Rattle.theorems.specs.Reasons.{ReasonsAndPlaces};
 ghost use Rattle.theorems.specs.Secrecy.{OpensExactly, StruckExactly, Demand3};
 ghost use Rattle.theorems.specs.Runs.{RunsOnce, Demand3OfCode};
 ghost use Rattle.theorems.specs.Determined.{Determined};
@@ -15,6 +16,11 @@ pub fn worked_talk()
 // No command on UART takes over 265 bytes to its last answer, and a write of 256 bytes takes as many.
 pub fn no_longer_command()
     ensures { λ _. ⌜ NoLongerCommand ⌝ }
+{}
+
+// The reason of a call is the first of those whose tests refuse; its place is counted from the first byte of the command, on CAN by what was gathered.
+pub fn reasons_and_places()
+    ensures { λ _. ⌜ ReasonsAndPlaces ⌝ }
 {}
 
 // Demand 3: two locked boards, given the same calls, leave the same to be seen until an obeyed Access Unprotect, and the same in everything after it.

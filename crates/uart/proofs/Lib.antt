@@ -1,3 +1,3 @@
 pub mod Steps
 pub mod Good
-mod First
+pub mod First
