@@ -39,31 +39,46 @@ extern "C" {
 #define OILTHICKET_UNSOUND_SESSION 4
 #define OILTHICKET_BOARD_RUNNING 5
 
+/* The numbers of the reasons for a NACK, in the order in which they are tested; 0 where there is none. */
+#define OILTHICKET_NO_REASON 0
+#define OILTHICKET_BAD_COMPLEMENT_OR_DLC 1
+#define OILTHICKET_UNKNOWN_COMMAND 2
+#define OILTHICKET_ACCESS_PROTECTED 3
+#define OILTHICKET_OTHER_ID_OR_EMPTY_FRAME 4
+#define OILTHICKET_BAD_CHECKSUM 5
+#define OILTHICKET_BAD_ADDRESS 6
+#define OILTHICKET_BAD_COUNT_OR_RANGE 7
+#define OILTHICKET_BAD_SECTOR_NUMBER 8
+#define OILTHICKET_WRITE_PROTECTED_SECTOR 9
+#define OILTHICKET_UNSUPPORTED_ERASE 10
+#define OILTHICKET_BAD_SPEED 11
+
 /* Powers the board on: writes a fresh session into a slice of 280 bytes and gives 0. A slice of another
  * length stays as it was, and the answer is 4. The memories are not touched. */
 uint8_t oilthicket_power_on(uint8_t *session, size_t session_length);
 
 /* Takes one UART byte. Gives the number of the call, writes the length of the reply to *length, and the
- * reply to the front of the buffer; the session then holds the next one. A refused call has length 0 and
- * leaves every other byte that was lent. A session's slice that is not 280 bytes long is an unsound
- * session. */
+ * reply to the front of the buffer; the session then holds the next one. If a NACK is in the reply, its
+ * reason is written to *reason, and to *place which byte of the command brought it, from 1; else both are
+ * 0. A refused call has length, reason and place 0 and leaves every other byte that was lent. A session's
+ * slice that is not 280 bytes long is an unsound session. */
 uint8_t oilthicket_take_byte(uint8_t *session, size_t session_length,
                              uint8_t byte,
                              uint8_t *flash, size_t flash_length,
                              uint8_t *sram, size_t sram_length,
                              uint8_t *usd, size_t usd_length,
                              uint8_t *buffer, size_t buffer_length,
-                             size_t *length);
+                             size_t *length, uint8_t *reason, uint16_t *place);
 
 /* Takes one CAN frame, of 11 bytes, as a UART byte is taken. The reply is frames of 11 bytes, one behind
- * the other. */
+ * the other. The place of a NACK is the count of bytes that were gathered before the frame. */
 uint8_t oilthicket_take_frame(uint8_t *session, size_t session_length,
                               const uint8_t *frame, size_t frame_length,
                               uint8_t *flash, size_t flash_length,
                               uint8_t *sram, size_t sram_length,
                               uint8_t *usd, size_t usd_length,
                               uint8_t *buffer, size_t buffer_length,
-                              size_t *length);
+                              size_t *length, uint8_t *reason, uint16_t *place);
 
 #ifdef __cplusplus
 }

@@ -1,5 +1,5 @@
-/* Connects on UART and asks for the version, then powers the board on again and connects on CAN; prints
- * what is sent and what the board answers. */
+/* Connects on UART, asks for the version and sends a command that does not exist, then powers the board on
+ * again and connects on CAN; prints what is sent, what the board answers, and why it refuses. */
 #include <stdio.h>
 #include <string.h>
 
@@ -18,12 +18,19 @@ static void print(const uint8_t *bytes, size_t length)
         printf(" %02X", bytes[i]);
 }
 
-/* Prints what was sent and what was answered; gives whether the call was accepted. */
-static int answered(const uint8_t *sent, size_t sent_length, uint8_t number, size_t length)
+/* What a call writes beside the reply. */
+static size_t length;
+static uint8_t reason;
+static uint16_t place;
+
+/* Prints what was sent, what was answered and why a NACK came; gives whether the call was accepted. */
+static int answered(const uint8_t *sent, size_t sent_length, uint8_t number)
 {
     print(sent, sent_length);
     printf(" >");
     print(buffer, length);
+    if (reason != OILTHICKET_NO_REASON)
+        printf(" ! %u %u", (unsigned)reason, (unsigned)place);
     printf("\n");
     return number == OILTHICKET_ACCEPTED;
 }
@@ -31,20 +38,18 @@ static int answered(const uint8_t *sent, size_t sent_length, uint8_t number, siz
 /* Sends one UART byte. */
 static int say(uint8_t byte)
 {
-    size_t length;
     uint8_t number = oilthicket_take_byte(session, sizeof session, byte, flash, sizeof flash, sram, sizeof sram,
-                                          usd, sizeof usd, buffer, sizeof buffer, &length);
-    return answered(&byte, 1, number, length);
+                                          usd, sizeof usd, buffer, sizeof buffer, &length, &reason, &place);
+    return answered(&byte, 1, number);
 }
 
 /* Sends one CAN frame. */
 static int send(const uint8_t frame[OILTHICKET_FRAME_BYTES])
 {
-    size_t length;
     uint8_t number = oilthicket_take_frame(session, sizeof session, frame, OILTHICKET_FRAME_BYTES,
                                            flash, sizeof flash, sram, sizeof sram,
-                                           usd, sizeof usd, buffer, sizeof buffer, &length);
-    return answered(frame, OILTHICKET_FRAME_BYTES, number, length);
+                                           usd, sizeof usd, buffer, sizeof buffer, &length, &reason, &place);
+    return answered(frame, OILTHICKET_FRAME_BYTES, number);
 }
 
 /* Powers the board on. */
@@ -62,7 +67,7 @@ int main(void)
     memset(usd, 0xFF, sizeof usd);
     usd[0] = 0xA5;
 
-    if (power_on() && say(0x7F) && say(0x01) && say(0xFE) && power_on() && send(connect))
+    if (power_on() && say(0x7F) && say(0x01) && say(0xFE) && say(0x05) && say(0xFA) && power_on() && send(connect))
         return 0;
     return 1;
 }

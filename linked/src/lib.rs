@@ -11,8 +11,8 @@ pub const ACCEPTED: u8 = 0;
 /// How many bytes a session has.
 pub const SESSION_BYTES: usize = 280;
 
-/// What a length is before its call, which writes it.
-const UNWRITTEN: usize = usize::MAX;
+/// What length, reason and place are before a call, which writes all three.
+const UNWRITTEN: (usize, u8, u16) = (usize::MAX, u8::MAX, u16::MAX);
 
 /// The calls of `libexports.a`. A slice is passed as a pointer and then a length.
 mod exported {
@@ -32,6 +32,8 @@ mod exported {
             buffer: *mut u8,
             buffer_length: usize,
             length: *mut usize,
+            reason: *mut u8,
+            place: *mut u16,
         ) -> u8;
 
         pub fn oilthicket_take_frame(
@@ -48,6 +50,8 @@ mod exported {
             buffer: *mut u8,
             buffer_length: usize,
             length: *mut usize,
+            reason: *mut u8,
+            place: *mut u16,
         ) -> u8;
     }
 }
@@ -72,6 +76,10 @@ pub struct Taken {
     pub number: u8,
     /// The length of the reply, which stands at the front of the reply buffer.
     pub length: usize,
+    /// The number of the reason of a NACK in the reply, 1 to 11; 0 where there is none.
+    pub reason: u8,
+    /// Where that NACK fell: on UART the byte of the command, from 1; on CAN the bytes gathered before the frame. 0 where there is none.
+    pub place: u16,
 }
 
 /// Powers the board on: writes a fresh session into a slice of 280 bytes and gives 0. Any other
@@ -83,7 +91,7 @@ pub fn power_on(session: &mut [u8]) -> u8 {
 
 /// Takes one UART byte with the session in a slice, which then holds the next one.
 pub fn take_byte(session: &mut [u8], byte: u8, lent: &mut Lent) -> Taken {
-    let mut length = UNWRITTEN;
+    let (mut length, mut reason, mut place) = UNWRITTEN;
     // SAFETY: each pointer and length are one slice's; `&mut` keeps the slices apart for the call.
     let number = unsafe {
         exported::oilthicket_take_byte(
@@ -99,14 +107,21 @@ pub fn take_byte(session: &mut [u8], byte: u8, lent: &mut Lent) -> Taken {
             lent.buffer.as_mut_ptr(),
             lent.buffer.len(),
             &mut length,
+            &mut reason,
+            &mut place,
         )
     };
-    Taken { number, length }
+    Taken {
+        number,
+        length,
+        reason,
+        place,
+    }
 }
 
 /// Takes one CAN frame with the session in a slice, which then holds the next one.
 pub fn take_frame(session: &mut [u8], frame: &[u8], lent: &mut Lent) -> Taken {
-    let mut length = UNWRITTEN;
+    let (mut length, mut reason, mut place) = UNWRITTEN;
     // SAFETY: each pointer and length are one slice's; `&mut` keeps the slices apart for the call.
     let number = unsafe {
         exported::oilthicket_take_frame(
@@ -123,9 +138,16 @@ pub fn take_frame(session: &mut [u8], frame: &[u8], lent: &mut Lent) -> Taken {
             lent.buffer.as_mut_ptr(),
             lent.buffer.len(),
             &mut length,
+            &mut reason,
+            &mut place,
         )
     };
-    Taken { number, length }
+    Taken {
+        number,
+        length,
+        reason,
+        place,
+    }
 }
 
 /// A session that keeps its bytes between calls.

@@ -163,14 +163,18 @@ impl Vector {
         vec![self.bytes[REPLY.0 + 4]; self.length(REPLY)]
     }
 
+    /// The slice of the frame that the call takes, if it takes one.
+    pub fn frame(&self) -> Option<&[u8]> {
+        (self.given == Given::Frame).then(|| &self.bytes[FRAME..][..usize::from(self.bytes[FRAME_LENGTH])])
+    }
+
     /// Makes the call on fresh copies.
     pub fn call(&self) -> After {
         let (mut session, mut store, mut reply) = (self.session(), self.store(), self.reply());
         let memories = &mut store.lend();
-        let frame = &self.bytes[FRAME..][..usize::from(self.bytes[FRAME_LENGTH])];
-        let called = match self.given {
-            Given::Frame => can_frame_in_place(&mut session, frame, memories, &mut reply),
-            _ => uart_byte_in_place(&mut session, self.bytes[BYTE], memories, &mut reply),
+        let called = match self.frame() {
+            Some(frame) => can_frame_in_place(&mut session, frame, memories, &mut reply),
+            None => uart_byte_in_place(&mut session, self.bytes[BYTE], memories, &mut reply),
         };
         After { called, session, store, reply }
     }

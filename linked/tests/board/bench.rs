@@ -1,7 +1,7 @@
 //! All that a call is given and leaves, so that two boards are compared byte by byte.
 
-use linked::{Lent, SESSION_BYTES};
-use second::{Session, Store};
+use linked::{Lent, Taken, SESSION_BYTES};
+use second::{Outcome, Session, Store};
 
 /// What reply buffers hold before a call.
 pub const UNTOUCHED: u8 = 0xC3;
@@ -23,6 +23,16 @@ pub fn session_bytes(session: &Session) -> [u8; SESSION_BYTES] {
     bytes[22] = session.speed;
     bytes[STAGED..].copy_from_slice(&session.staged);
     bytes
+}
+
+/// What the linked board is to hand back where the second board's call has this outcome.
+pub fn handed_back(outcome: &Outcome) -> Taken {
+    Taken {
+        number: outcome.number,
+        length: outcome.length,
+        reason: outcome.reason,
+        place: outcome.place,
+    }
 }
 
 /// What is lent to a call: a session's slice, the memories and the reply buffer.
@@ -47,13 +57,13 @@ impl Bench {
     }
 
     /// Gives a UART byte to the linked board.
-    pub fn take_byte(&mut self, byte: u8) -> linked::Taken {
+    pub fn take_byte(&mut self, byte: u8) -> Taken {
         let (session, mut lent) = self.lend();
         linked::take_byte(session, byte, &mut lent)
     }
 
     /// Gives a CAN frame to the linked board.
-    pub fn take_frame(&mut self, frame: &[u8]) -> linked::Taken {
+    pub fn take_frame(&mut self, frame: &[u8]) -> Taken {
         let (session, mut lent) = self.lend();
         linked::take_frame(session, frame, &mut lent)
     }

@@ -1,11 +1,11 @@
 //! Random single calls, each on a session and buffers of its own: wrong lengths, unsound sessions,
 //! huge numbers and frames of any length among them.
 
-use crate::bench::{session_bytes, Bench};
+use crate::bench::{handed_back, session_bytes, Bench};
 use linked::Taken;
-use second::vector::Vector;
+use second::vector::{Vector, BYTE};
 use second::vectors::{random, reached};
-use second::ACCEPTED;
+use second::Outcome;
 use std::env;
 use std::str::FromStr;
 
@@ -38,7 +38,7 @@ fn lent(vector: &Vector) -> Bench {
 fn linked_call(vector: &Vector) -> (Taken, Bench) {
     let mut bench = lent(vector);
     let taken = match vector.frame() {
-        None => bench.take_byte(vector.byte()),
+        None => bench.take_byte(vector.byte_at(BYTE)),
         Some(frame) => bench.take_frame(frame),
     };
     (taken, bench)
@@ -47,19 +47,16 @@ fn linked_call(vector: &Vector) -> (Taken, Bench) {
 /// Makes a vector's call on the second board: what it gives, and all that it leaves.
 fn second_call(vector: &Vector) -> (Taken, Bench) {
     let after = vector.call();
-    let (number, length) = match after.called {
-        Ok(taken) => (ACCEPTED, taken.length),
-        Err(cause) => (cause.number(), 0),
-    };
+    let outcome = Outcome::of(after.called, after.session);
     let bench = Bench {
-        session: session_bytes(&after.session).to_vec(),
+        session: session_bytes(&outcome.session).to_vec(),
         store: after.store,
         buffer: after.reply,
     };
-    (Taken { number, length }, bench)
+    (handed_back(&outcome), bench)
 }
 
-/// Both boards give the same number and length, and leave the same bytes everywhere.
+/// Both boards give the same number, length, reason and place, and leave the same bytes everywhere.
 #[test]
 fn random_calls_agree() {
     let (seed, calls) = (wanted("LINKED_SEED", SEED), wanted("LINKED_CALLS", CALLS));
@@ -79,5 +76,8 @@ fn random_calls_agree() {
 /// The vectors reach all that can come of a call.
 #[test]
 fn random_calls_reach_all_that_can_come() {
-    assert_eq!(reached(&random(SEED, LOOKED_AT)).missing(), Vec::<String>::new());
+    assert_eq!(
+        reached(&random(SEED, LOOKED_AT)).missing(),
+        Vec::<String>::new()
+    );
 }

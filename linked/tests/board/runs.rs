@@ -1,6 +1,6 @@
 //! Runs of calls on one session's slice, which each call hands on to the next.
 
-use crate::bench::{session_bytes, Bench, UNTOUCHED};
+use crate::bench::{handed_back, session_bytes, Bench, UNTOUCHED};
 use second::ends::Kind;
 use second::frame::frame_bytes;
 use second::line::{Line, LINE_BYTES};
@@ -20,10 +20,7 @@ struct Second {
 impl Second {
     /// Tests that the linked board gave and left what the second one did, and goes on with that.
     fn agrees(&mut self, taken: linked::Taken, outcome: Outcome, reply: &[u8], bench: &Bench) {
-        assert_eq!(
-            (taken.number, taken.length),
-            (outcome.number, outcome.length)
-        );
+        assert_eq!(taken, handed_back(&outcome));
         self.session = outcome.session;
         assert!(
             bench.session == session_bytes(&self.session),

@@ -32,6 +32,8 @@ fn refused(bench: &Bench, cause: u8, call: impl Fn(&mut Bench) -> Taken) {
     let expected = Taken {
         number: cause,
         length: 0,
+        reason: 0,
+        place: 0,
     };
     assert_eq!(taken, expected, "{} bytes", bench.session.len());
     assert!(
