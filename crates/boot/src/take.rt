@@ -112,7 +112,7 @@ impl Session {
         if here { can::bears(self.step, id) } else { id }
     }
 
-    // An accepted call tells how long its reply is, why and where it was refused, and hands back the session that follows.
+    // An accepted call tells how long its reply is, the reason and the place of a NACK in it, and hands back the session that follows.
     fn accepted(self, carrier: Carrier, taken: Session, decision: Decision, length: usize) -> Taken
         requires { ⌜ T (sound self) ⌝ }
         ensures { λ r. ⌜ r ≡ acceptedTaken carrier self taken decision length ⌝ }

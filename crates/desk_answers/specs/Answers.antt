@@ -51,13 +51,15 @@ makes f (i ∷ is) p = made f i p then makes f is
 abbrev pub replyOf : Teller
 replyOf i o = spelledFor i (o .reply)
 
+-- the replies of calls, joined
 abbrev pub tells : List Input → State → Told State
 tells is p = makes replyOf is p
 
--- the NACKs are noted
+-- a NACK is noted
 abbrev pub whyOf : Teller
 whyOf i o = noteOf (o .reason) (o .place)
 
+-- the notes of calls, joined
 abbrev pub notes : List Input → State → Told State
 notes is p = makes whyOf is p
 

@@ -24,12 +24,14 @@ printed = "> 79" ∷ "> 79 20 01 07 79" ∷ ">" ∷ "> 079:79" ∷ "? 5" ∷ []
 abbrev pub Example : Type 0
 Example = prints false (written typed) ≡ written printed
 
--- a command that does not exist and an address whose checksum is wrong: of which NACK each is told, the second at wire byte 7 of a Read Memory
+-- a command that does not exist, and the address of a Read Memory whose checksum is wrong
 abbrev pub mistyped : List String
 mistyped = "U 7F 05 FA" ∷ "U 11 EE 08 00 00 00 00 11 EE 08 00 00 00 08" ∷ "U 00" ∷ []
 
+-- each NACK is explained behind the answer to its line: the first fell at the command's second byte, the second at the seventh
 abbrev pub explainedTo : List String
 explainedTo = "> 79 1F" ∷ "! 2 2 unknown command" ∷ "> 79 1F 79 79" ∷ "! 5 7 bad checksum" ∷ ">" ∷ []
 
+-- and that is what desk prints, asked for reasons
 abbrev pub ExampleWhy : Type 0
 ExampleWhy = prints true (written mistyped) ≡ written explainedTo

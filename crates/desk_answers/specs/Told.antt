@@ -2,7 +2,7 @@
 use Prim.Native.Nat.{ℕ}
 use mathlib.Core.List.{List, [], _++_}
 
--- a text that is printed, and what is so after it
+-- a text that is printed, or notes that are taken, and what is so after it
 pub record Told (A : Type 0) : Type 0 where
   pub text : List ℕ
   pub state : A

@@ -10,13 +10,13 @@ use Rattle.words.specs.Texts.{characters}
 use Rattle.desk_print.specs.Adds.{Adds}
 use Rattle.desk_answers.specs.Told.{Told}
 use Rattle.desk_answers.specs.Promise.{Tells, Continues}
-use Rattle.desk_answers.specs.Why.{reasonWords, wordsFor, explanation, explanations}
+use Rattle.desk_answers.specs.Why.{words, wordsFor, explanation, explanations}
 use Rattle.desk_answers.proofs.Telling.{one-told, none-left}
 
 -- a number that is 0, or past the last reason, has no words
 pub no-words : (n : ℕ) → (0 < n → 12 ≤ n) → wordsFor n ≡ []
 no-words zero h = refl
-no-words (suc n) h = ap characters (List·getD-eq-default reasonWords "" {n = suc n} (h (omega arith)))
+no-words (suc n) h = ap characters (List·getD-eq-default words "" {n = suc n} (h (omega arith)))
 
 -- the first two notes of what is left, and the others
 first-two : (notes : List ℕ) (i : ℕ) → i + 1 < length notes

@@ -6,7 +6,7 @@ ghost use Rattle.words.specs.Texts.{characters};
 ghost use Rattle.desk_print.specs.Adds.{Adds};
 ghost use Rattle.desk_answers.specs.Answers.{explained};
 ghost use Rattle.desk_answers.specs.Promise.{noteNumbers, noteRoom};
-ghost use Rattle.desk_answers.specs.Why.{noteOf, wordsFor, explanation, explanations};
+ghost use Rattle.desk_answers.specs.Why.{noteOf, wordsFor, mostWords, explanation};
 use command::reason::NO_REASON;
 use desk_print::add;
 
@@ -29,9 +29,9 @@ pub(crate) fn note(reason: u8, place: u16, notes: &mut [u16], at: usize) -> usiz
 
 // Adds document 02's words for a reason.
 fn words(reason: u16, out: &mut [u8], at: usize) -> usize
-    requires { ⌜ at + 34 ≤ length (now out) ⌝ }
+    requires { ⌜ at + mostWords ≤ length (now out) ⌝ }
     ensures added { λ r. ⌜ Adds (now (out .entry)) at r (now (out .exit)) (wordsFor reason) ⌝ }
-    ensures short { λ r. ⌜ r ≤ at + 34 ⌝ }
+    ensures short { λ r. ⌜ r ≤ at + mostWords ⌝ }
 {
     match reason {
         1 => add(b"bad complement or DLC", out, at),
@@ -55,12 +55,12 @@ fn explain(reason: u16, place: u16, out: &mut [u8], at: usize) -> usize
     ensures added { λ r. ⌜ Adds (now (out .entry)) at r (now (out .exit)) (explanation reason place) ⌝ }
     ensures short { λ r. ⌜ r ≤ at + noteNumbers * noteRoom ⌝ }
 {
-    let begun = add(b"! ", out, at);
-    let why = desk_print::number(reason as u64, out, begun);
-    let between = add(b" ", out, why);
-    let fell = desk_print::number(place as u64, out, between);
-    let behind = add(b" ", out, fell);
-    let end = words(reason, out, behind);
+    let mut end = add(b"! ", out, at);
+    end = desk_print::number(reason as u64, out, end);
+    end = add(b" ", out, end);
+    end = desk_print::number(place as u64, out, end);
+    end = add(b" ", out, end);
+    end = words(reason, out, end);
     add(b"\n", out, end)
 }
 

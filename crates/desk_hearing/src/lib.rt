@@ -63,12 +63,11 @@ fn end_line(
     ensures counts { λ r. ⌜ (r .kept ≡ 0) × (r .lines ≡ desk .lines + 1) ⌝ }
 {
     let session = desk.session;
-    let why = desk.why;
     let number = desk.lines + 1;
     let kept = desk.kept;
     let told = desk_answers_code::answer(
         session,
-        why,
+        desk.why,
         number,
         &line[..kept],
         flash,
@@ -80,7 +79,7 @@ fn end_line(
     let next = told.session;
     Desk {
         session: next,
-        why: why,
+        why: desk.why,
         lines: number,
         kept: 0,
         end: told.end,

@@ -36,8 +36,5 @@ one-more {why} h t = record {
 }
 
 -- the end of the input
-pub gets-up : {why : Bool} {d e : Desk} → HasHeard why d → e ≡ inputEnds d .state → LeftBy why (e .state .memories)
-gets-up h p = record {
-  text = h .text;
-  memories = ap (λ (x : Desk). x .state .memories) (p ∙ ap (λ (x : Desk). inputEnds x .state) (h .desk));
-}
+pub gets-up : {why : Bool} {d e : Desk} → HasHeard why d → e ≡ inputEnds d .state → LeftBy why e
+gets-up h p = record { text = h .text; desk = p ∙ ap (λ (x : Desk). inputEnds x .state) (h .desk) }

@@ -8,7 +8,6 @@ use lib.ListN.{length}
 use Rattle.words.specs.Choice.{if_then_else_}
 use Rattle.words.specs.Lists.{cut}
 use Rattle.words.specs.Over.{put}
-use Rattle.memories.specs.Memories.{Memories}
 use Rattle.desk_answers.specs.Promise.{characterRoom}
 use Rattle.desk_answers.specs.Told.{_then_}
 use Rattle.desk_answers.specs.Desk as D
@@ -66,7 +65,7 @@ pub record HasHeard (why : Bool) (d : D.Desk) : Type 0 where
   pub text : List ℕ
   pub desk : d ≡ hears text (freshDesk why) .state
 
--- memories are what the fresh board, just powered, is left with by some text and the end of the input
-pub record LeftBy (why : Bool) (m : Memories) : Type 0 where
+-- a desk is what the fresh board, just powered, becomes by some text and the end of the input
+pub record LeftBy (why : Bool) (d : D.Desk) : Type 0 where
   pub text : List ℕ
-  pub memories : m ≡ (hears text (freshDesk why) then inputEnds) .state .state .memories
+  pub desk : d ≡ (hears text (freshDesk why) then inputEnds) .state

@@ -185,7 +185,7 @@ fn turns_left(turns: u64, going: bool) -> u64
     if going { turns - 1 } else { 0 }
 }
 
-// Reads until the input ends, and answers a last line that has no LF.
+// Reads until the input ends, answers a last line that has no LF, and hands back the desk that is left.
 fn sit(
     why: bool,
     from: i32,
@@ -195,11 +195,11 @@ fn sit(
     sram: &mut [u8],
     usd: &mut [u8],
     out: &mut [u8],
-)
+) -> Desk
     requires { ⌜ length (now line) ≡ keptCharacters ⌝ }
     requires { ⌜ outCharacters ≤ length (now out) ⌝ }
     requires { ⌜ held flash sram usd ≡ freshMemories ⌝ }
-    ensures { λ _. ⌜ LeftBy why (are flash sram usd) ⌝ }
+    ensures { λ r. ⌜ LeftBy why (deskOf r (now (line .exit)) (are flash sram usd)) ⌝ }
 {
     let mut desk = Desk {
         session: Session::power_on(),
@@ -217,6 +217,7 @@ fn sit(
     let done = finish(desk, line, flash, sram, usd, out);
     let end = done.end;
     io::write_all(to, &out[..end]);
+    done
 }
 
 // The program desk, asked for reasons or not: from the fresh board, just powered, it reads lines until they end and writes the answers.

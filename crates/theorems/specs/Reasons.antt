@@ -32,11 +32,13 @@ callTests i p = onlyIf (accepts (causeFor i p)) (heardTests i p)
 abbrev pub come : ℕ → List ℕ → State → State
 come room bs p = run (map (Byte room) bs) p
 
+-- what every call tells of a NACK
 pub record ReasonsAndPlaces : Type 0 where
   -- the reason of any call, on any board, is the first of those whose tests refuse
   pub first : (i : Input) (p : State) → IsFirst (call i p .reason) (callTests i p)
-  -- on UART its place is the number of the byte that brings the NACK, counted from the first byte of its command
+  -- on UART its place is the number of the byte that brings the NACK, counted from the first byte of its command, where all of them are accepted and nothing
+  -- else comes between
   pub counted : (room : ℕ) (bs : List ℕ) (b : ℕ) (p : State) → T (between (p .session)) → T (goesOn room bs p)
       → call (Byte room b) (come room bs p) .place ≡ placed (call (Byte room b) (come room bs p) .reason) (length bs + 1)
-  -- on CAN it is the count of the bytes that were gathered before the frame
+  -- on CAN it is what the session has taken, the count of the bytes that were gathered before the frame (`Sessions` has how it grows)
   pub gathered : (room : ℕ) (l : List ℕ) (p : State) → call (Framed room l) p .place ≡ placed (call (Framed room l) p .reason) (p .session .taken)

@@ -6,6 +6,7 @@ use lib.Dec.{T, eqb}
 use lib.ListN.{length, take, drop}
 use Rattle.board.specs.Usd.{protectionOn}
 use Rattle.memories.specs.Memories.{Memories, memories, proper}
+use Rattle.command.specs.Why.{noReason}
 use Rattle.boot.specs.Calls.{State, powered}
 use Rattle.boot.specs.Promise.{PoweredOn, Left, left, stateOf, givenByte, givenFrame, Took}
 use Rattle.boot.specs.declared.Session.{Session}
@@ -13,9 +14,10 @@ use Rattle.theorems.specs.Secrecy.{isUnprotect, Call, PowerOn, TakeByte,
 
 -- ---- runs of the code
 
--- what is left where power on has handed back a session: it gives no number (written as 0), no reply and no reason, and is lent nothing, so the memories are as they were
+-- what is left where power on has handed back a session: it gives no number (written as 0), no reply, no reason and no place, and is lent nothing, so
+-- the memories are as they were
 abbrev pub leftOn : Session → State → Left
-leftOn s p = left (record { number = 0; length = 0; reason = 0; place = 0; session = s }) (p .memories) []
+leftOn s p = left (record { number = 0; length = 0; reason = noReason; place = 0; session = s }) (p .memories) []
 
 -- a call on a board has left this, and has kept its promise
 abbrev pub Kept : Call → State → Left → Type 0
