@@ -45,6 +45,6 @@ falls-at-spec =
     cast-result-2
     (λ c. search needs)
     (λ c. rw (c .enum-told .given .1))
-    (λ c. rw (c .before .before .before .enum-told2 .given .1, ← c .before .before .of .ensures, ← c .before .before2 .ensures))
+    (λ c. rw (c .before .before .before .enum-told2 .given .1, c .before .before2 .ensures, c .before .before .of .ensures))
     (λ c. rw (c .before .enum-told3 .given .1))
     (λ c. rw (c .enum-told4 .given .1)))
