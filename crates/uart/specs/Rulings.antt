@@ -1,10 +1,10 @@
--- Rulings of the UART conversation that document 01 gives.
+-- Rulings of the UART conversation that document 01 gives, and the places of document 02, Wish 2.
 use mathlib.Core.Path.{_≡_}
 use mathlib.Core.Bool.{_&&_}
 use mathlib.Core.List.{List, [], _∷_, map}
-use Prim.Native.Nat.{ℕ, _-_, _%_}
+use Prim.Native.Nat.{ℕ, _+_, _*_, _-_, _%_}
 use lib.ListN.{length, getD}
-use lib.Dec.{eqb, leb}
+use lib.Dec.{T, eqb, leb}
 use Rattle.words.specs.Hex.{hex}
 use Rattle.words.specs.Lists.{countFrom}
 use Rattle.board.specs.declared.Region.the-variants.{Flash}
@@ -18,10 +18,10 @@ use Rattle.command.specs.declared.FixedReply.the-variants.{Silence, Ack, AckAck
 use Rattle.command.specs.declared.Why.the-variants.{BadComplement, UnknownCommand, AccessProtected, BadChecksum, BadAddress, BadRange, UnsupportedErase}
 use Rattle.rules.specs.Rulings.{Ruling, _is_, Ruled, fresh, locked}
 use Rattle.uart.specs.Conversation.{commandBytes, heard}
-use Rattle.uart.specs.Steps.{stepNo, steps, stepOf, expects, expectedFor, countIn, expectedForNumbers, numbersIn}
+use Rattle.uart.specs.Steps.{stepNo, steps, stepOf, expects, expectedFor, countIn, expectedForNumbers, numbersIn, wireByte}
 use Rattle.uart.specs.declared.Step.{Step}
-use Rattle.uart.specs.declared.Step.the-variants.{Idle, ReadAddress, JumpAddress, CrcAddress, ReadLength, WriteLength, WriteData, EraseSelector}
-use Rattle.uart.specs.declared.Step.the-variants.{SpecialCheck, EraseList, ProtectList, CrcCount}
+use Rattle.uart.specs.declared.Step.the-variants.{Idle, ReadAddress, JumpAddress, WriteAddress, CrcAddress, ReadLength, WriteLength, WriteData}
+use Rattle.uart.specs.declared.Step.the-variants.{EraseSelector, SpecialCheck, EraseList, ProtectList, CrcCount}
 
 -- the last byte of a step comes in: the bytes before it, the address, the view
 abbrev pub last : Step → List ℕ → ℕ → View → Decision
@@ -78,3 +78,29 @@ pub record StepRulings : Type 0 where
   -- X is read back from it
   pub bytesBack : (x : ℕ) → countIn (expectedFor x) ≡ x
   pub numbersBack : (x : ℕ) → numbersIn (expectedForNumbers x) ≡ x
+
+-- whatever a step expects, its last byte is this wire byte of the command
+abbrev pub DecidedAt : Step → ℕ → Type 0
+DecidedAt s n = (e : ℕ) → T (expects s e) → wireByte s e ≡ n
+
+-- the wire bytes, from 1, at which a NACK may fall, in numbers; a length is never refused
+pub record PlaceRulings : Type 0 where
+  -- a command, at its complement
+  pub command : DecidedAt Idle 2
+  -- the addresses of 0x11, 0x21, 0x31 and 0xAC, at their XOR
+  pub readAddress : DecidedAt ReadAddress 7
+  pub jumpAddress : DecidedAt JumpAddress 7
+  pub writeAddress : DecidedAt WriteAddress 7
+  pub crcAddress : DecidedAt CrcAddress 7
+  -- a read's length, at its complement
+  pub readLength : DecidedAt ReadLength 9
+  -- a write's X bytes, at their checksum
+  pub writeData : (x : ℕ) → wireByte WriteData (expectedFor x) ≡ 9 + x
+  -- an erase: its selector, its special check, its list of X numbers
+  pub eraseSelector : DecidedAt EraseSelector 4
+  pub specialCheck : DecidedAt SpecialCheck 5
+  pub eraseList : (x : ℕ) → wireByte EraseList (expectedForNumbers x) ≡ 5 + 2 * x
+  -- 0x63's list of X indexes
+  pub protectList : (x : ℕ) → wireByte ProtectList (expectedFor x) ≡ 4 + x
+  -- the count of 0xAC, at its check
+  pub crcCount : DecidedAt CrcCount 10
