@@ -1,14 +1,14 @@
 -- Each rule gives the first reason of what it tests, by cases over its tests; a write's range lies in the region of its first byte, or in none.
-use Prim.Native.Nat.{ℕ}
+use Prim.Native.Nat.{ℕ, zero, suc, _+_, _-_, _/_, _≤_}
 use mathlib.Core.Path.{_≡_, refl, sym, subst, _∙_}
 use mathlib.Core.Bool.{Bool, true, false, not, _&&_, _||_}
 use mathlib.Core.List.{List, [], _∷_}
 use native.Mathlib.Omega.{arith}
-use lib.Dec.{T, eqb}
+use lib.Dec.{T, eqb, ltb, le→leb}
 use Rattle.words.specs.Choice.{if_then_else_}
 use Rattle.words.specs.Lists.{any, all}
 use Rattle.board.specs.Board as B
-use Rattle.board.specs.Quantities.{bytesIn, isSector, everySector, firstIndexed, firstNumbered}
+use Rattle.board.specs.Quantities.{bytesIn, isSector, sector, sectorsFrom, everySector, firstIndexed, firstNumbered}
 use Rattle.board.specs.Regions.{placeOf, found, known, jumpable, sectorStart, touched}
 use Rattle.board.specs.View.{writeProtected}
 use Rattle.board.specs.declared.Address.{Address}
@@ -30,8 +30,8 @@ use Rattle.command.specs.declared.Why.the-variants.{AccessProtected, BadAddress
 use Rattle.command.proofs.First.{precedesAll, forbidden, guarded, unrefused, RefusesFirst, judged-first}
 use Rattle.rules.specs.Rules.{unlessProtected, readAt, reading, writeVerdictAt, writeVerdict, writeAt, writing, eraseVerdict, erasing}
 use Rattle.rules.specs.Rules.{eraseAllVerdict, protectVerdict, protecting, jumping, sumAt, summing}
-use Rattle.rules.specs.Tests.{readTests, partOfUsd, touchesProtected, writeTests, eraseTests, meansAll, eraseAllTests, protectTests, jumpTests}
-use Rattle.rules.specs.Tests.{inFlash, sumTests}
+use Rattle.rules.specs.Tests.{readTests, partOfUsd, protectedSector, touchesProtected, writeTests, eraseTests, meansAll, eraseAllTests}
+use Rattle.rules.specs.Tests.{protectTests, jumpTests, inFlash, sumTests}
 
 -- a command that is protected, before what it decides
 pub unless-first : (view : View) (c : Command) (ts : List Test) {d : Decision} → T (precedesAll (reason AccessProtected) ts) → GivesFirst d ts
@@ -65,6 +65,32 @@ pub summing-first : (a : Address) (x : ℕ) → GivesFirst (summing a x) (sumTes
 unfolding summing
 summing-first a x = forbidden (sectorStart a) BadAddress _ tt (sum-at-first (placeOf a (bytesIn x)) (bytesIn x))
 
+-- ---- sectors that exist
+
+-- where all numbers are those of sectors, a sector among them is write-protected exactly where its bit says so
+all-exist : (view : View) (ks : List Sector) → T (all isSector ks) → any (protectedSector view) ks ≡ any (writeProtected view) ks
+all-exist view [] h = refl
+all-exist view (k ∷ ks) h = by-test (isSector k) (writeProtected view k) h (all-exist view ks)
+  where
+    by-test : (t u : Bool) → T (t && all isSector ks) → (T (all isSector ks) → any (protectedSector view) ks ≡ any (writeProtected view) ks)
+        → (t && u || any (protectedSector view) ks) ≡ (u || any (writeProtected view) ks)
+    by-test true true h rest = refl
+    by-test true false h rest = rest h
+    by-test false u h rest = absurd h
+
+-- n sectors from k on, none over 31
+none-over : (k n : ℕ) → k + n ≤ 32 → T (all isSector (sectorsFrom (sector k) n))
+none-over k zero h = tt
+none-over k (suc n) h = and-rest (ltb k 32) (le→leb (suc k) 32 (omega arith)) (none-over (suc k) n (omega arith))
+  where
+    and-rest : (t : Bool) → T t → T (all isSector (sectorsFrom (sector (suc k)) n)) → T (t && all isSector (sectorsFrom (sector (suc k)) n))
+    and-rest true t r = r
+    and-rest false t r = absurd t
+
+-- the sectors that bytes of flash touch exist
+touched-exist : (at x : ℕ) → at + 1 ≤ 32768 → at + x ≤ 32768 → T (all isSector (touched at x))
+touched-exist at x h k = none-over (at / 1024) ((at + x - 1) / 1024 - at / 1024 + 1) (omega arith)
+
 -- ---- writes
 
 -- the reason that a write's places give: that of its first byte, and that of the whole
@@ -82,7 +108,7 @@ nowhere-first view Nowhere x = record { first = refl }
 -- the range leaves its region
 leaving-first : (view : View) (r : Region) (at x : ℕ) → Judges view (In r at) Nowhere x
 unfolding writeVerdictAt firstReason
-leaving-first view Flash at x = by-test (any (writeProtected view) (touched at x))
+leaving-first view Flash at x = by-test (any (protectedSector view) (touched at x))
   where
     by-test : (t : Bool) → RefusesFirst (No BadRange) ((BadAddress when false) ∷ (BadRange when true) ∷ (WriteProtected when t) ∷ [])
     by-test true = record { first = refl }
@@ -90,17 +116,25 @@ leaving-first view Flash at x = by-test (any (writeProtected view) (touched at x
 leaving-first view Sram at x = record { first = refl }
 leaving-first view Usd at x = record { first = refl }
 
--- the range lies where its first byte does
-within-first : (view : View) (r : Region) (at x : ℕ) → Judges view (In r at) (In r at) x
+-- the range lies where its first byte does, in flash, in SRAM or in user system data
+in-flash-first : (view : View) (at x : ℕ) → T (all isSector (touched at x)) → Judges view (In Flash at) (In Flash at) x
 unfolding writeVerdictAt firstReason
-within-first view Flash at x = by-test (any (writeProtected view) (touched at x))
+in-flash-first view at x h = by-test (any (writeProtected view) (touched at x)) (any (protectedSector view) (touched at x)) (all-exist view (touched at x) h)
   where
-    by-test : (t : Bool)
-        → RefusesFirst (if t then No WriteProtected else Fine) ((BadAddress when false) ∷ (BadRange when false) ∷ (WriteProtected when t) ∷ [])
-    by-test true = record { first = refl }
-    by-test false = record { first = refl }
-within-first view Sram at x = record { first = refl }
-within-first view Usd at x = by-test (eqb at 0 && eqb x (B.usd .bytes))
+    by-test : (t u : Bool) → u ≡ t
+        → RefusesFirst (if t then No WriteProtected else Fine) ((BadAddress when false) ∷ (BadRange when false) ∷ (WriteProtected when u) ∷ [])
+    by-test true true e = record { first = refl }
+    by-test true false e = absurd (subst T (sym e) tt)
+    by-test false true e = absurd (subst T e tt)
+    by-test false false e = record { first = refl }
+
+in-sram-first : (view : View) (at x : ℕ) → Judges view (In Sram at) (In Sram at) x
+unfolding writeVerdictAt firstReason
+in-sram-first view at x = record { first = refl }
+
+in-usd-first : (view : View) (at x : ℕ) → Judges view (In Usd at) (In Usd at) x
+unfolding writeVerdictAt firstReason
+in-usd-first view at x = by-test (eqb at 0 && eqb x (B.usd .bytes))
   where
     by-test : (t : Bool)
         → RefusesFirst (if t then Fine else No BadRange) ((BadAddress when false) ∷ (BadRange when not t) ∷ (WriteProtected when false) ∷ [])
@@ -113,15 +147,18 @@ same-region : (view : View) (a : Address) (x : ℕ) (r s : Region) (at to : ℕ)
 same-region view a x r s at to e f = by-regions r s (lies a 1 r at e) (lies a x s to f)
   where
     by-regions : (r s : Region) → Lies a 1 r at → Lies a x s to → Judges view (In r at) (In s to) x
-    by-regions Flash Flash l m = subst (λ (n : ℕ). Judges view (In Flash at) (In Flash n) x) (l .offset ∙ sym (m .offset)) (within-first view Flash at x)
+    by-regions Flash Flash l m =
+        subst (λ (n : ℕ). Judges view (In Flash at) (In Flash n) x) (l .offset ∙ sym (m .offset))
+        (in-flash-first view at x
+        (touched-exist at x (omega (arith, l .from, l .to, l .offset)) (omega (arith, m .from, m .to, l .offset))))
     by-regions Flash Sram l m = absurd (omega (arith, l .to, m .from))
     by-regions Flash Usd l m = absurd (omega (arith, l .to, m .from))
     by-regions Sram Flash l m = absurd (omega (arith, l .from, m .to))
-    by-regions Sram Sram l m = subst (λ (n : ℕ). Judges view (In Sram at) (In Sram n) x) (l .offset ∙ sym (m .offset)) (within-first view Sram at x)
+    by-regions Sram Sram l m = subst (λ (n : ℕ). Judges view (In Sram at) (In Sram n) x) (l .offset ∙ sym (m .offset)) (in-sram-first view at x)
     by-regions Sram Usd l m = absurd (omega (arith, l .from, m .to))
     by-regions Usd Flash l m = absurd (omega (arith, l .from, m .to))
     by-regions Usd Sram l m = absurd (omega (arith, l .to, m .from))
-    by-regions Usd Usd l m = subst (λ (n : ℕ). Judges view (In Usd at) (In Usd n) x) (l .offset ∙ sym (m .offset)) (within-first view Usd at x)
+    by-regions Usd Usd l m = subst (λ (n : ℕ). Judges view (In Usd at) (In Usd n) x) (l .offset ∙ sym (m .offset)) (in-usd-first view at x)
 
 pub write-verdict-first : (view : View) (a : Address) (x : ℕ) → RefusesFirst (writeVerdict view a x) (writeTests view a x)
 unfolding writeVerdict
@@ -149,14 +186,16 @@ writing-first view a x = written-first view (known a) (placeOf a x) x (write-ver
 
 erase-verdict-first : (view : View) (ks : List Sector) → RefusesFirst (eraseVerdict view ks) (eraseTests view ks)
 unfolding eraseVerdict firstReason
-erase-verdict-first view ks = by-tests (all isSector ks) (any (writeProtected view) ks)
+erase-verdict-first view ks = by-tests (all isSector ks) (any (writeProtected view) ks) (any (protectedSector view) ks) (all-exist view ks)
   where
-    by-tests : (t u : Bool)
-        → RefusesFirst (if not t then No BadSector else if u then No WriteProtected else Fine) ((BadSector when not t) ∷ (WriteProtected when u) ∷ [])
-    by-tests true true = record { first = refl }
-    by-tests true false = record { first = refl }
-    by-tests false true = record { first = refl }
-    by-tests false false = record { first = refl }
+    by-tests : (t u v : Bool) → (T t → v ≡ u)
+        → RefusesFirst (if not t then No BadSector else if u then No WriteProtected else Fine) ((BadSector when not t) ∷ (WriteProtected when v) ∷ [])
+    by-tests true true true e = record { first = refl }
+    by-tests true true false e = absurd (subst T (sym (e tt)) tt)
+    by-tests true false true e = absurd (subst T (e tt) tt)
+    by-tests true false false e = record { first = refl }
+    by-tests false u true e = record { first = refl }
+    by-tests false u false e = record { first = refl }
 
 pub erasing-first : (view : View) (staged : List ℕ) (x : ℕ) → GivesFirst (erasing view staged x) (eraseTests view (firstNumbered x staged))
 unfolding erasing

@@ -50,9 +50,13 @@ partOfUsd (In Sram at) x = false
 partOfUsd (In Usd at) x = not (eqb at 0 && eqb x (usd .bytes))
 partOfUsd Nowhere x = false
 
+-- a number is that of a sector, and this sector is write-protected
+abbrev pub protectedSector : View → Sector → Bool
+protectedSector view k = isSector k && writeProtected view k
+
 -- x bytes from a place in flash on touch a write-protected sector, whether or not they leave flash
 abbrev pub touchesProtected : View → Place → ℕ → Bool
-touchesProtected view (In Flash at) x = any (writeProtected view) (touched at x)
+touchesProtected view (In Flash at) x = any (protectedSector view) (touched at x)
 touchesProtected view (In Sram at) x = false
 touchesProtected view (In Usd at) x = false
 touchesProtected view Nowhere x = false
@@ -79,7 +83,7 @@ selectorTests n = (BadRange when impossible n) ∷ []
 
 -- 0x44, the list: a number over 31; a write-protected sector
 abbrev pub eraseTests : View → List Sector → List Test
-eraseTests view ks = (BadSector when not (all isSector ks)) ∷ (WriteProtected when any (writeProtected view) ks) ∷ []
+eraseTests view ks = (BadSector when not (all isSector ks)) ∷ (WriteProtected when any (protectedSector view) ks) ∷ []
 
 -- a special selector means all flash
 abbrev pub meansAll : ℕ → Bool
