@@ -1,6 +1,6 @@
 -- The CAN conversation, command by command and step by step: document 01, "CAN conversation".
 use Prim.Native.Nat.{ℕ, _+_}
-use mathlib.Core.Bool.{Bool, true, false, not, _||_}
+use mathlib.Core.Bool.{Bool, true, not, _||_}
 use mathlib.Core.List.{List, _∷_, map}
 use lib.ListN.{length, getD, drop}
 use lib.Dec.{eqb, leb}
@@ -65,10 +65,10 @@ dlcFits FirmwareCrc n = eqb n (addressBytes + longCountBytes)
 dlcFits ResetDevice n = true
 dlcFits Speed n = eqb n 2
 
--- the same for the command that was looked up; where there is none, no DLC is right
+-- the same for the command that was looked up; an unknown command has no rule
 abbrev pub dlcRight : Lookup → ℕ → Bool
 dlcRight (Known c) n = dlcFits c n
-dlcRight Unknown n = false
+dlcRight Unknown n = true
 
 -- special erases: ACK, then ACK or NACK
 unfoldable pub erasedOrNot : Verdict → Decision

@@ -1,7 +1,7 @@
 -- What each CAN frame is tested for, beside the reason that it has: document 02, Wish 2.
 use Prim.Native.Nat.{ℕ}
 use mathlib.Core.Path.{_≡_}
-use mathlib.Core.Bool.{Bool, false, not, _||_}
+use mathlib.Core.Bool.{not, _||_}
 use mathlib.Core.List.{List, [], _∷_, _++_}
 use lib.ListN.{length, getD, drop}
 use lib.Dec.{T, eqb, leb}
@@ -23,7 +23,7 @@ use Rattle.command.specs.declared.Why.the-variants.{BadComplement, UnknownComma
 use Rattle.command.specs.declared.Why.the-variants.{WriteProtected, UnsupportedErase, BadSpeed}
 use Rattle.rules.specs.Tests.{commandTests, readTests, writeTests, special, selectorTests, eraseTests, eraseAllTests, protectTests, jumpTests, sumTests}
 use Rattle.frames.specs.Frames.{Frame, carried, counted}
-use Rattle.can.specs.Conversation.{largestSpeed, dlcFits, heard}
+use Rattle.can.specs.Conversation.{largestSpeed, dlcRight, heard}
 use Rattle.can.specs.Steps.{numbersIn}
 use Rattle.can.specs.declared.Step.{Step}
 use Rattle.can.specs.declared.Step.the-variants.{Idle, WriteData, EraseList, ProtectList}
@@ -57,11 +57,6 @@ possible WriteData l = OtherFrame ∷ BadAddress ∷ BadRange ∷ WriteProtected
 possible EraseList l = OtherFrame ∷ BadRange ∷ BadSector ∷ WriteProtected ∷ []
 possible ProtectList l = OtherFrame ∷ BadRange ∷ BadSector ∷ []
 
--- a command has another DLC than it must have; an unknown one must have none
-abbrev pub wrongDlc : Lookup → ℕ → Bool
-wrongDlc (Known c) n = not (dlcFits c n)
-wrongDlc Unknown n = false
-
 -- what a command frame's data are tested for, by the command
 abbrev pub dataTests : View → List ℕ → Command → List Test
 dataTests view d GetCommands = []
@@ -86,7 +81,7 @@ dataTestsFor view d Unknown = []
 
 -- a command frame: a wrong DLC; unknown, or protected while protection is on; what its data are tested for
 abbrev pub frameTests : View → List ℕ → Lookup → List Test
-frameTests view d l = (BadComplement when wrongDlc l (length d)) ∷ commandTests view l ++ dataTestsFor view d l
+frameTests view d l = (BadComplement when not (dlcRight l (length d))) ∷ commandTests view l ++ dataTestsFor view d l
 
 -- a frame that is gathered: another ID, or DLC 0; then, when no more bytes are expected, what the whole is tested for
 abbrev pub gatheringTests : Command → Progress → Frame → List Test → List Test

@@ -39,7 +39,7 @@ const COUNT_ONLY: usize = 1;
 // The largest number that a command may have: a byte's.
 const LARGEST_NUMBER: u16 = 0xFF;
 
-// Whether the DLC is right for the command of a number; for no command none is.
+// Whether the DLC is right for the command of a number; an unknown command has no rule.
 fn dlc_right(number: u8, dlc: usize) -> bool
     ensures { λ r. ⌜ r ≡ dlcRight (lookUp canCommands number) dlc ⌝ }
 {
@@ -56,7 +56,7 @@ fn dlc_right(number: u8, dlc: usize) -> bool
         | code::ACCESS_PROTECT
         | code::ACCESS_UNPROTECT
         | code::RESET_DEVICE => true,
-        _ => false,
+        _ => true,
     }
 }
 
