@@ -21,6 +21,10 @@ use Rattle.command.specs.declared.Why.the-variants.{BadRange, BadSector,
 
 -- ---- one test before others
 
+-- `precedes`, of a number in place of a reason
+abbrev numberPrecedes : ℕ → ℕ → Bool
+numberPrecedes m n = eqb n noReason || leb m n
+
 -- a number is not behind the reason of any test
 abbrev pub precedesAll : ℕ → List Test → Bool
 precedesAll m ts = all (λ (t : Test). leb m (reason (t .why))) ts
@@ -35,17 +39,17 @@ either-right true b t = tt
 either-right false b t = t
 
 -- what is not behind two numbers is not behind the earlier one
-not-behind : (m a n : ℕ) (b c : Bool) → T (leb m a) → T (precedes m n) → T (precedes m (if b then if c then a else n else n))
+not-behind : (m a n : ℕ) (b c : Bool) → T (leb m a) → T (numberPrecedes m n) → T (numberPrecedes m (if b then if c then a else n else n))
 not-behind m a n true true h k = either-right (eqb a noReason) (leb m a) h
 not-behind m a n true false h k = k
 not-behind m a n false c h k = k
 
 -- so what is not behind the reason of any test is not behind the first one
-precedes-first : (m : ℕ) (ts : List Test) → T (precedesAll m ts) → T (precedes m (firstReason ts))
+precedes-first : (m : ℕ) (ts : List Test) → T (precedesAll m ts) → T (numberPrecedes m (firstReason ts))
 unfolding firstReason
 precedes-first m [] h = tt
 precedes-first m (t ∷ ts) h =
-    not-behind m (reason (t .why)) (firstReason ts) (t .refuses) (precedes (reason (t .why)) (firstReason ts))
+    not-behind m (reason (t .why)) (firstReason ts) (t .refuses) (precedes (t .why) (firstReason ts))
     (both-left (leb m (reason (t .why))) (precedesAll m ts) h)
     (precedes-first m ts (both-right (leb m (reason (t .why))) (precedesAll m ts) h))
 
@@ -60,7 +64,7 @@ unrefused e = record { first = e }
 pub refused-first : (w : Why) (ts : List Test) → T (precedesAll (reason w) ts) → GivesFirst (nack w) ((w when true) ∷ ts)
 unfolding firstReason
 refused-first w ts h =
-    record { first = sym (chosen (precedes (reason w) (firstReason ts)) (reason w) (firstReason ts) (precedes-first (reason w) ts h)) }
+    record { first = sym (chosen (precedes w (firstReason ts)) (reason w) (firstReason ts) (precedes-first (reason w) ts h)) }
 
 -- a test that was passed
 pub passed : (w : Why) {ts : List Test} {d : Decision} → GivesFirst d ts → GivesFirst d ((w when false) ∷ ts)
@@ -86,7 +90,7 @@ pub only-if-first : (b : Bool) (ts : List Test) → firstReason (onlyIf b ts) �
 unfolding firstReason
 only-if-first true [] = refl
 only-if-first true (t ∷ ts) =
-    ap (λ (n : ℕ). if t .refuses then earlier (reason (t .why)) n else n) (only-if-first true ts)
+    ap (λ (n : ℕ). if t .refuses then earlier (t .why) n else n) (only-if-first true ts)
 only-if-first false [] = refl
 only-if-first false (t ∷ ts) = only-if-first false ts
 
@@ -143,7 +147,7 @@ none-first [] = refl
 none-first (t ∷ ts) = by-test (t .refuses) (none-first ts)
   where
     by-test : (b : Bool) → eqb (firstReason ts) noReason ≡ not (any (λ (u : Test). u .refuses) ts)
-        → eqb (if b then earlier (reason (t .why)) (firstReason ts) else firstReason ts) noReason ≡ not (b || any (λ (u : Test). u .refuses) ts)
+        → eqb (if b then earlier (t .why) (firstReason ts) else firstReason ts) noReason ≡ not (b || any (λ (u : Test). u .refuses) ts)
     by-test true h =
         some-earlier (reason (t .why)) (firstReason ts) (is-some (t .why)) (eqb (firstReason ts) noReason) (leb (reason (t .why)) (firstReason ts)) refl
     by-test false h = h
@@ -161,7 +165,7 @@ one-of-three false false c t = t
 among-first : (ts : List Test) → T (eqb (firstReason ts) noReason || had (firstReason ts) ts)
 unfolding firstReason
 among-first [] = tt
-among-first (t ∷ ts) = by-tests (reason (t .why)) (firstReason ts) (t .refuses) (precedes (reason (t .why)) (firstReason ts)) (among-first ts)
+among-first (t ∷ ts) = by-tests (reason (t .why)) (firstReason ts) (t .refuses) (precedes (t .why) (firstReason ts)) (among-first ts)
   where
     by-tests : (a n : ℕ) (b c : Bool) → T (eqb n noReason || had n ts)
         → T (eqb (if b then if c then a else n else n) noReason
@@ -180,31 +184,33 @@ both true b s t = t
 both false b s t = absurd s
 
 -- what is not behind the earlier of a reason and a number is not behind either
-behind-neither : (m a n : ℕ) → eqb a noReason ≡ false → T (precedes m (earlier a n)) → T (leb m a) × T (precedes m n)
-behind-neither m a n ha h = by-tests (eqb n noReason) (leb a n) refl refl h
+behind-neither : (m : ℕ) (w : Why) (n : ℕ) → T (numberPrecedes m (earlier w n)) → T (leb m (reason w)) × T (numberPrecedes m n)
+behind-neither m w n h = by-tests (eqb n noReason) (leb (reason w) n) refl refl h
   where
-    by-tests : (z l : Bool) → eqb n noReason ≡ z → leb a n ≡ l → T (precedes m (if z || l then a else n)) → T (leb m a) × T (precedes m n)
-    by-tests true l ez el h = (the-other (eqb a noReason) (leb m a) ha h, either-left (eqb n noReason) (leb m n) (subst T (sym ez) tt))
+    by-tests : (z l : Bool) → eqb n noReason ≡ z → leb (reason w) n ≡ l → T (numberPrecedes m (if z || l then reason w else n))
+        → T (leb m (reason w)) × T (numberPrecedes m n)
+    by-tests true l ez el h =
+        (the-other (eqb (reason w) noReason) (leb m (reason w)) (is-some w) h, either-left (eqb n noReason) (leb m n) (subst T (sym ez) tt))
     by-tests false true ez el h =
-        let k = the-other (eqb a noReason) (leb m a) ha h in
-        (k, either-right (eqb n noReason) (leb m n) (le→leb m n (omega (arith, leb→le m a k, leb-true a n el))))
+        let k = the-other (eqb (reason w) noReason) (leb m (reason w)) (is-some w) h in
+        (k, either-right (eqb n noReason) (leb m n) (le→leb m n (omega (arith, leb→le m (reason w) k, leb-true (reason w) n el))))
     by-tests false false ez el h =
         let k = the-other (eqb n noReason) (leb m n) ez h in
-        (le→leb m a (omega (arith, leb→le m n k, leb-false a n el)), h)
+        (le→leb m (reason w) (omega (arith, leb→le m n k, leb-false (reason w) n el)), h)
 
 -- what is not behind the first reason is not behind that of a test that refuses
-behind-none : (m : ℕ) (ts : List Test) → T (precedes m (firstReason ts))
+behind-none : (m : ℕ) (ts : List Test) → T (numberPrecedes m (firstReason ts))
     → T (all (λ (t : Test). not (t .refuses) || leb m (reason (t .why))) ts)
 unfolding firstReason
 behind-none m [] h = tt
 behind-none m (t ∷ ts) h = by-test (t .refuses) (behind-none m ts) h
   where
     by-test : (b : Bool)
-        → (T (precedes m (firstReason ts)) → T (all (λ (u : Test). not (u .refuses) || leb m (reason (u .why))) ts))
-        → T (precedes m (if b then earlier (reason (t .why)) (firstReason ts) else firstReason ts))
+        → (T (numberPrecedes m (firstReason ts)) → T (all (λ (u : Test). not (u .refuses) || leb m (reason (u .why))) ts))
+        → T (numberPrecedes m (if b then earlier (t .why) (firstReason ts) else firstReason ts))
         → T ((not b || leb m (reason (t .why))) && all (λ (u : Test). not (u .refuses) || leb m (reason (u .why))) ts)
     by-test true f h =
-        let k = behind-neither m (reason (t .why)) (firstReason ts) (is-some (t .why)) h in
+        let k = behind-neither m (t .why) (firstReason ts) h in
         both (leb m (reason (t .why))) _ (k .0) (f (k .1))
     by-test false f h = f h
 

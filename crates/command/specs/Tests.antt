@@ -24,18 +24,18 @@ w when b = record { why = w; refuses = b }
 abbrev pub onlyIf : Bool → List Test → List Test
 onlyIf b ts = map (λ (t : Test). t .why when b && t .refuses) ts
 
--- a reason's number is not behind another; every reason is before none
-abbrev pub precedes : ℕ → ℕ → Bool
-precedes m n = eqb n noReason || leb m n
+-- a reason comes before a number: the number stands for no reason, or for one that is not tested earlier
+abbrev pub precedes : Why → ℕ → Bool
+precedes w n = eqb n noReason || leb (reason w) n
 
--- the one of two numbers that is tested first
-abbrev pub earlier : ℕ → ℕ → ℕ
-earlier m n = if precedes m n then m else n
+-- of a reason and a number, which may stand for none, the number of the reason that is tested first
+abbrev pub earlier : Why → ℕ → ℕ
+earlier w n = if precedes w n then reason w else n
 
 -- of the tests that refuse, the reason that is tested first, in whatever order the tests stand; 0 where none refuses
 unfoldable pub firstReason : List Test → ℕ
 firstReason [] = noReason
-firstReason (t ∷ ts) = if t .refuses then earlier (reason (t .why)) (firstReason ts) else firstReason ts
+firstReason (t ∷ ts) = if t .refuses then earlier (t .why) (firstReason ts) else firstReason ts
 
 -- the reason in a decision's reply is the first one of these tests
 pub record GivesFirst (d : Decision) (ts : List Test) : Type 0 where
