@@ -28,7 +28,7 @@ use Rattle.can.specs.Steps.{numbersIn}
 use Rattle.can.specs.declared.Step.{Step}
 use Rattle.can.specs.declared.Step.the-variants.{Idle, WriteData, EraseList, ProtectList}
 
--- the reasons that a command frame may give for its own command, in document 02's order
+-- the reasons that a command frame may give for its own command, in document 02's order: no reason but these, and which of them, if any, `first` says
 abbrev pub possibleOf : Command → List Why
 possibleOf GetCommands = []
 possibleOf GetVersion = []
@@ -45,12 +45,12 @@ possibleOf FirmwareCrc = BadAddress ∷ BadRange ∷ []
 possibleOf ResetDevice = []
 possibleOf Speed = BadSpeed ∷ []
 
--- and those of any command frame
+-- and those of any command frame: again no reason but these, of which an unknown ID gives the second
 abbrev pub possibleFor : Lookup → List Why
 possibleFor (Known c) = BadComplement ∷ UnknownCommand ∷ AccessProtected ∷ possibleOf c
 possibleFor Unknown = BadComplement ∷ UnknownCommand ∷ AccessProtected ∷ []
 
--- the reasons that a frame may give in each step: idle by the command that its ID is, while gathering by the running one
+-- no reason but these is given by a frame in a step, idle by the command that its ID is, while gathering by the running one; which of them, `first` says
 abbrev pub possible : Step → Lookup → List Why
 possible Idle l = possibleFor l
 possible WriteData l = OtherFrame ∷ BadAddress ∷ BadRange ∷ WriteProtected ∷ []

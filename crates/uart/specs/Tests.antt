@@ -25,7 +25,7 @@ use Rattle.uart.specs.declared.Step.{Step}
 use Rattle.uart.specs.declared.Step.the-variants.{Idle, ReadAddress, JumpAddress, WriteAddress, CrcAddress, ReadLength, WriteLength, WriteData}
 use Rattle.uart.specs.declared.Step.the-variants.{EraseSelector, SpecialCheck, EraseList, ProtectLength, ProtectList, CrcCount}
 
--- the reasons that each step may give, in document 02's order
+-- the reasons that each step may give, in document 02's order: no reason but these, and which of them, if any, `first` says
 abbrev pub possible : Step → List Why
 possible Idle = BadComplement ∷ UnknownCommand ∷ AccessProtected ∷ []
 possible ReadAddress = BadChecksum ∷ BadAddress ∷ []
