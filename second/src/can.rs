@@ -90,7 +90,7 @@ pub fn needed_dlc(command: u16) -> Option<usize> {
 }
 
 /// What a command frame breaks by its DLC and ID, and by protection; the data are read whatever the DLC is.
-fn form(frame: &Frame, memories: &Memories) -> [Test; 3] {
+fn form_of(frame: &Frame, memories: &Memories) -> [Test; 3] {
     let needed = needed_dlc(frame.id).unwrap_or(frame.dlc);
     let known = CAN_LIST[1..].iter().any(|command| u16::from(*command) == frame.id);
     let miss = Miss::by_high_byte(CAN_LIST[1..].contains(&(frame.id as u8)));
@@ -103,7 +103,7 @@ fn form(frame: &Frame, memories: &Memories) -> [Test; 3] {
 
 /// Takes a command frame: its ID is the command.
 fn command(frame: &Frame, memories: &mut Memories, frames: &mut Frames) -> Result<Done, Refusal> {
-    let form = form(frame, memories);
+    let form = form_of(frame, memories);
     match frame.id {
         SPEED => speed(frame, &form, frames),
         READ_MEMORY => read_memory(frame, &form, memories, frames),
@@ -191,20 +191,24 @@ fn write_memory(frame: &Frame, form: &[Test], memories: &Memories, frames: &mut 
 
 /// Takes 0x44: a list is gathered, a special erase is ACK and then ACK or NACK.
 fn erase(frame: &Frame, form: &[Test], memories: &mut Memories, frames: &mut Frames) -> Result<Done, Refusal> {
-    let selector = EraseSelector::from_bytes(frame.bytes[0], frame.bytes[1]);
-    let special = match selector {
-        Ok(EraseSelector::Special(selector)) => Some(effects::erasable_by(memories, selector)),
-        _ => None,
+    let (x, impossible) = match EraseSelector::from_bytes(frame.bytes[0], frame.bytes[1]) {
+        Ok(EraseSelector::Special(selector)) => return erase_special(selector, form, memories, frames),
+        Ok(EraseSelector::List(x)) => (Some(x), None),
+        Err(rule) => (None, Some(rule)),
     };
-    if special.is_some() && form.iter().all(Option::is_none) {
+    let x = judged(&[form, &[impossible]], x)?;
+    frames.send(&[ACK]);
+    Ok(enter_list(CanStep::EraseList, x))
+}
+
+/// Takes a special erase: a right form is one ACK, whatever follows, and a second one says that it is done.
+fn erase_special(selector: u32, form: &[Test], memories: &mut Memories, frames: &mut Frames) -> Result<Done, Refusal> {
+    if form.iter().all(Option::is_none) {
         frames.send(&[ACK]);
     }
-    let selector = judged(&[form, &[selector.err(), special.flatten()]], selector.ok())?;
+    let done = effects::erase_special(memories, selector, form)?;
     frames.send(&[ACK]);
-    match selector {
-        EraseSelector::List(x) => Ok(enter_list(CanStep::EraseList, x)),
-        EraseSelector::Special(selector) => effects::erase_special(memories, selector, form),
-    }
+    Ok(done)
 }
 
 /// Takes 0xAC: ACK, one frame of four.

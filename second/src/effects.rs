@@ -191,7 +191,7 @@ fn sector_numbers(list: &[u8]) -> impl Iterator<Item = usize> + Clone + '_ {
 }
 
 /// What a special erase breaks: only two selectors erase, and these name all flash.
-pub fn erasable_by(memories: &Memories, selector: u32) -> Test {
+fn erasable_by(memories: &Memories, selector: u32) -> Test {
     let protected = protected_among(memories.usd, 0..SECTORS);
     match selector {
         ERASE_ALL | ERASE_BANK_1 => protected,
@@ -209,15 +209,10 @@ pub fn erase_special(memories: &mut Memories, selector: u32, of_carrier: &[Test]
     Ok((Effect::ErasedAll(Edge::of(selector as usize, ERASE_BANK_1 as usize, ERASE_ALL as usize), bytes), Next::Idle))
 }
 
-/// What a list of sectors to protect breaks.
-fn protectable(indexes: &[u8]) -> Test {
-    no_sector(indexes.iter().map(|index| usize::from(*index)))
-}
-
 /// Makes the indexed sectors the only protected ones, then reset, or refuses all.
 pub fn protect_only(memories: &mut Memories, indexes: &[u8], of_carrier: &[Test]) -> Result<Done, Refusal> {
     let sectors = indexes.iter().map(|index| usize::from(*index));
-    judge(&[of_carrier, &[protectable(indexes)]])?;
+    judge(&[of_carrier, &[no_sector(sectors.clone())]])?;
     let mut bits = NO_SECTOR_PROTECTED;
     for sector in sectors.clone() {
         bits[sector / 8] &= !(1 << (sector % 8));

@@ -70,9 +70,9 @@ fn can_row(step: CanStep) -> Row {
 pub fn command_row(command: u16) -> CommandRow {
     use CommandRow as Row;
     use Item::{Address, Any, Count, SectorCount, Selector, Speed};
-    let both = |ends| Row(&[Any], ends, ends);
+    let alike = |ends| Row(&[Any], ends, ends);
     match command {
-        GET_COMMANDS | GET_VERSION | GET_DEVICE_ID => both(&[Did(Effect::Told)]),
+        GET_COMMANDS | GET_VERSION | GET_DEVICE_ID => alike(&[Did(Effect::Told)]),
         SPEED => Row(&[Speed], &[Missed(Refused::Speed, &[Miss::Behind, Miss::Far]), Edges(Effect::ChangedSpeed)], &[]),
         READ_MEMORY => Row(&[Address, Count], &[NO_REGION, Leaves, READ], &[Begun(UartStep::ReadAddress)]),
         JUMP => Row(&[Address], &[JUMP_ENDS], &[Begun(UartStep::JumpAddress)]),
@@ -80,10 +80,10 @@ pub fn command_row(command: u16) -> CommandRow {
         ERASE => Row(&[Selector], &[NO_SELECTOR, SPECIAL_ERASE, Entered(Can(CanStep::EraseList))], &[Begun(UartStep::EraseSelector)]),
         PROTECT => Row(&[Count], &[Entered(Can(CanStep::ProtectList))], &[Begun(UartStep::ProtectLength)]),
         FIRMWARE_CRC => Row(&[Address, SectorCount], &[NO_SECTOR_START, NO_START_AND_LEAVES, CRC_ENDS], &[Begun(UartStep::CrcAddress)]),
-        UNPROTECT => both(&[Spans(Effect::ReleasedSectors, &Span::USE)]),
-        ACCESS_PROTECT => both(&[Did(Effect::Locked)]),
-        ACCESS_UNPROTECT => both(&[Spans(Effect::Wiped, &Span::USE), Did(Effect::LeftOpen)]),
-        RESET_DEVICE => both(&[Did(Effect::Reset)]),
+        UNPROTECT => alike(&[Spans(Effect::ReleasedSectors, &Span::USE)]),
+        ACCESS_PROTECT => alike(&[Did(Effect::Locked)]),
+        ACCESS_UNPROTECT => alike(&[Spans(Effect::Wiped, &Span::USE), Did(Effect::LeftOpen)]),
+        RESET_DEVICE => alike(&[Did(Effect::Reset)]),
         _ => Row(&[Any], &[Missed(Refused::Unknown, &[Miss::HighByte, Miss::Far])], UNKNOWN),
     }
 }
@@ -234,7 +234,7 @@ const CRC_ENDS: Ends =
     All(&[Missed(Refused::SectorRange, &[Miss::Behind, Miss::HighByte, Miss::Far]), Spans(Effect::Summed, &Span::PLAIN)]);
 
 /// How an input breaks the form that a step wants, whatever else it breaks.
-fn form(check: Check) -> &'static [Ends] {
+fn bad_check(check: Check) -> &'static [Ends] {
     match check {
         Check::None | Check::Command => &[],
         Check::Complement | Check::Xor | Check::Inverse | Check::Special => &[Nack(Refused::Checksum)],
@@ -258,7 +258,7 @@ fn both(first: &[End], others: &[End]) -> Vec<End> {
 /// How an input that a step hears can end, each end with the command that it was to, if that is known.
 pub fn ends(step: Step) -> Vec<(Option<u16>, End)> {
     let Row(_, check, ends, _) = row(step);
-    let (form, ends) = (All(form(check)).each(), All(ends).each());
+    let (form, ends) = (All(bad_check(check)).each(), All(ends).each());
     let waits = (step.expects() != Expects::just(1)).then_some(End::Did(Effect::Waits));
     let of_both = both(&form, &ends);
     let of_step = [form, waits.into_iter().collect(), of_both, ends].concat();
@@ -291,5 +291,5 @@ fn of_command(command: u16, idle: Step) -> Vec<End> {
 pub fn ends_by_hand(step: Step) -> Vec<End> {
     let Row(_, check, _, by_hand) = row(step);
     let by_hand = All(by_hand).each();
-    [both(&All(form(check)).each(), &by_hand), by_hand].concat()
+    [both(&All(bad_check(check)).each(), &by_hand), by_hand].concat()
 }
