@@ -50,11 +50,13 @@ impl Bench {
         frames.collect::<Vec<String>>().join(" ")
     }
 
-    /// Hands on a call's session and number, and gives its reply; the buffer behind it is untouched, and only a NACK has a reason.
+    /// Hands on a call's session and number, and gives its reply; the buffer behind it is untouched, only a reply that ends with NACK has a
+    /// reason, and only a reason has a place.
     fn replied<'r>(&mut self, outcome: Outcome, reply: &'r [u8]) -> &'r [u8] {
         let (reply, rest) = reply.split_at(outcome.length);
         assert!(rest.iter().all(|byte| *byte == UNTOUCHED));
         if outcome.reason > 0 {
+            assert!(reply == [0x1F] || reply.ends_with(&[1, 0x1F, 0, 0, 0, 0, 0, 0, 0]));
             self.nacks.push((outcome.reason, outcome.place));
         }
         assert!(outcome.reason > 0 || outcome.place == 0);

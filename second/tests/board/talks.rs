@@ -1,6 +1,6 @@
 //! Talks: the lines of `desk` that are typed, each followed by what is printed and what changes.
 //!
-//! A part of a talk begins with the sentence of document 01 that it tries, behind `#`, and a fresh
+//! A part of a talk begins with the sentence of document 01 or 02 that it tries, behind `#`, and a fresh
 //! board, or with `#U` or `#C` and one that is then connected on UART or CAN. `U`, `C` and `P` type a
 //! line of `desk`, and `>` is what that prints. `!` sets memories or the session before. `=` tells what
 //! the line has changed: every other byte of the memories must be as it was, and each call accepted unless

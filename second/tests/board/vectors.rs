@@ -1,4 +1,4 @@
-//! Vectors: their lines, the digest, answers worked out by hand from document 01, and what any call promises.
+//! Vectors: their lines, the digest, answers worked out by hand from documents 01 and 02, and what any call promises.
 
 use crate::bench::{self, hex, spaced};
 use second::vector::{adler32, run, Vector};
@@ -123,17 +123,17 @@ fn other_lines_are_no_vectors() {
     }
 }
 
-/// A reply that begins with NACK, or ends with it behind the ACK of an erase on CAN, has a reason and nothing else has; only a NACK has a
-/// place, from 2 to 265.
+/// A reply that is a NACK, or ends with one behind the ACK of an erase on CAN, has a reason and nothing else has. The place is from 2 to 265 on
+/// UART, to 255 on CAN, and 0 behind an ACK and where there is no NACK.
 fn test_nack(replied: &[u8], has_reason: bool, place: u16) {
-    let nack = match replied {
-        [0x1F] => true,
-        [0..=7, _, 1, 0x1F, _, _, _, _, _, _, _] => true,
-        [0, 0x44, .., 1, 0x1F, _, _, _, _, _, _, _] => true,
-        _ => false,
+    let places = match replied {
+        [0x1F] => Some(2..=265),
+        [0..=7, _, 1, 0x1F, _, _, _, _, _, _, _] => Some(0..=255),
+        [0, 0x44, .., 1, 0x1F, _, _, _, _, _, _, _] => Some(0..=0),
+        _ => None,
     };
-    assert_eq!(has_reason, nack, "{replied:02X?}");
-    assert!(if nack { place <= 265 && (replied.len() > 1 || place >= 2) } else { place == 0 });
+    assert_eq!(has_reason, places.is_some(), "{replied:02X?}");
+    assert!(places.unwrap_or(0..=0).contains(&place), "{replied:02X?} at {place}");
 }
 
 /// A line of 251 characters is read back as its vector; a refused call leaves everything, an accepted one a sound session.
