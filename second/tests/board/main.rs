@@ -1,5 +1,5 @@
-//! Tests of the second board; every expected value is taken from the documents or `expected/`, and in `reasons.talk` from a list of how the
-//! open points of document 02 are read, too.
+//! Tests of the second board; every expected value is taken from the documents or `expected/`. Where the words of document 02 leave a reason
+//! or a place open, `reasons.talk` follows the reading that the README gives under "Why a NACK fell".
 
 mod bench;
 mod calls;
