@@ -2,3 +2,5 @@ pub mod Sound
 pub mod Good
 pub mod Accept
 pub mod Causes
+pub mod Silent
+pub mod Slices

@@ -5,3 +5,5 @@ pub mod Causes
 pub mod Calls
 pub mod Promise
 pub mod Refusals
+pub mod Gathering
+pub mod Slices

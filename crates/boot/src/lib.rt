@@ -1,7 +1,9 @@
 // The calls of the board: its session, the causes of a refusal, and what a call hands back.
 pub mod decide;
+pub mod gathering;
 pub mod held;
 pub mod place;
+pub mod slice;
 pub mod steps;
 pub mod take;
 

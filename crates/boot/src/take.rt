@@ -91,8 +91,8 @@ impl Session {
         )
     }
 
-    // A refused call gives no reply, and the session stays.
-    fn refused(self, cause: Cause) -> Taken
+    // What is handed back where nothing is taken: the cause's number, no reply, no reason, and the session stays.
+    pub(crate) fn unanswered(self, cause: Cause) -> Taken
         ensures { λ r. ⌜ r ≡ refusedTaken cause self ⌝ }
     {
         Taken {
@@ -143,7 +143,7 @@ impl Session {
         let cause = self.byte_cause(flash.len(), sram.len(), usd.len(), buffer.len());
         let clear = cause.accepts();
         if !clear {
-            return self.refused(cause);
+            return self.unanswered(cause);
         }
         let taken = self.gather_byte(byte);
         let decision = self.decide_byte(byte, taken, View::of(usd));
@@ -169,7 +169,7 @@ impl Session {
         let cause = self.frame_cause(frame, flash.len(), sram.len(), usd.len(), buffer.len());
         let clear = cause.accepts();
         if !clear {
-            return self.refused(cause);
+            return self.unanswered(cause);
         }
         let id = frames::id(frame);
         let carried = frames::carried(frame);

@@ -8,7 +8,7 @@ use denote.Enum.Declared.{tagOf}
 use types.Run.{OneOf, miss}
 use lib.Dec.{leb}
 use borrow.Author.Tests.{leb-true, leb-false}
-use lib.ListN.{length, getD, set, take, drop, length-append, length-drop}
+use lib.ListN.{length, set, take, drop, length-append, length-drop}
 use lib.Seq.{take-append-seam}
 use Rattle.words.specs.Over.{put, newer}
 use Rattle.words.proofs.Over.{over-none, put-one, put-then}
@@ -25,8 +25,7 @@ use Rattle.boot.specs.Promise.{Given, Left, left, givenByte, stateOf, outcome, 
 use Rattle.boot.specs.declared.Session.{Session}
 use Rattle.boot.specs.declared.Taken.{Taken}
 use Rattle.words.specs.Hex.{space}
-use Rattle.desk_lines.specs.Digits.{byteIn}
-use Rattle.desk_lines.specs.Lines.{lineFeed, mostCharacters, fields, kindOf}
+use Rattle.desk_lines.specs.Lines.{lineFeed, mostCharacters, kindOf}
 use Rattle.desk_print.specs.Digits.{decimal}
 use Rattle.desk_answers.specs.Told.{Told, quiet, _then_}
 use Rattle.desk_print.specs.Adds.{Adds}
@@ -39,7 +38,7 @@ use Rattle.desk_lines.specs.declared.Kind.{Kind}
 use Rattle.desk_lines.specs.declared.Kind.the-variants.{Bytes, Frame, PowerOn, Other}
 use Rattle.desk_lines.proofs.Kind.{the-type}
 use Rattle.desk_print.proofs.Printing.{length-spelled}
-use Rattle.desk_lines.proofs.Lines.{field-first, kind-beyond}
+use Rattle.desk_lines.proofs.Lines.{kind-beyond}
 
 module _ (g : Given) (l : Left) (t : Took g l) where
   -- a reply is no longer than the room lent for it
@@ -168,13 +167,6 @@ none-left a {from = from} {out = out} k = record {
   text = sym (over-none newer out from) ∙ k .text;
   state = k .state;
 }
-
--- the calls of fields from a place on: that of the first, and then those of the others
-pub makes-fields : (f : Teller) (s : List ℕ) (i : ℕ) (p : State) → i + 2 < length s
-    → makes f (map (Byte deskRoom) (fields (drop i s))) p
-    ≡ (made f (Byte deskRoom (byteIn (getD s (i + 1) 0) (getD s (i + 2) 0))) p then makes f (map (Byte deskRoom) (fields (drop (i + 3) s))))
-unfolding makes
-makes-fields f s i p h = rw (field-first s i h) refl
 
 -- ---- answers
 

@@ -1,18 +1,11 @@
 -- What the functions that answer promise: every part of what they give back and every byte lent.
-use Prim.Native.Nat.{ℕ, _+_, _*_, _≤_}
+use Prim.Native.Nat.{ℕ, _+_, _*_}
 use mathlib.Core.Path.{_≡_}
-use mathlib.Core.Bool.{Bool}
-use mathlib.Core.List.{List, map}
-use lib.Dec.{T}
-use lib.ListN.{length, drop}
+use mathlib.Core.List.{List}
+use lib.ListN.{length}
 use Rattle.words.specs.Over.{put}
-use Rattle.memories.specs.Memories.{Memories, proper}
-use Rattle.boot.specs.Calls.{Byte}
-use Rattle.boot.specs.Promise.{stateOf}
-use Rattle.boot.specs.declared.Session.{Session}
-use Rattle.desk_lines.specs.Lines.{areFields, fields}
 use Rattle.desk_print.specs.Prints.{numberRoom}
-use Rattle.desk_answers.specs.Answers.{deskRoom, tells, notes}
+use Rattle.desk_answers.specs.Answers.{deskRoom}
 use Rattle.desk_answers.specs.Told.{Told}
 
 -- what is told stands in a text from one place to another, the text is else unchanged, and a state is as told
@@ -26,16 +19,6 @@ pub record Continues {A : Type 0} (rest : Told A) (from : ℕ) (out : List ℕ) 
   pub end : from + length (rest .text) ≡ at + length (whole .text)
   pub text : put out from (rest .text) ≡ put before at (whole .text)
   pub state : rest .state ≡ whole .state
-
--- a session takes the first characters of some hex bytes, n of them, at once: nothing is told of these, and another session is left, whatever the
--- memories hold; whether these have their lengths is given
-pub record Passes (s : Session) (right : Bool) (rest : List ℕ) (next : Session) (n : ℕ) : Type 0 where
-  pub within : n ≤ length rest
-  pub left : T (areFields (drop n rest))
-  pub told : (m : Memories) → proper m ≡ right
-      → tells (map (Byte deskRoom) (fields rest)) (stateOf s m) ≡ tells (map (Byte deskRoom) (fields (drop n rest))) (stateOf next m)
-  pub noted : (m : Memories) → proper m ≡ right
-      → notes (map (Byte deskRoom) (fields rest)) (stateOf s m) ≡ notes (map (Byte deskRoom) (fields (drop n rest))) (stateOf next m)
 
 -- the most characters of the notice that bears a line's number
 abbrev pub noticeRoom : ℕ

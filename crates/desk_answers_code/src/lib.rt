@@ -5,7 +5,7 @@ ghost use mathlib.Core.Path.{_≡_};
 ghost use mathlib.Core.List.{[], _∷_, map};
 ghost use Prim.Native.Nat.{_+_, _*_, _≤_, _<_};
 ghost use lib.Dec.{T};
-ghost use lib.ListN.{length};
+ghost use lib.ListN.{length, drop};
 ghost use Rattle.words.specs.Hex.{fieldCharacters};
 ghost use Rattle.words.specs.Over.{put};
 ghost use Rattle.memories.specs.Lent.{were, are};
@@ -13,7 +13,7 @@ ghost use Rattle.boot.specs.Calls.{Byte, Framed};
 ghost use Rattle.boot.specs.Promise.{stateOf};
 ghost use Rattle.desk_lines.specs.Lines.{mostCharacters, areFields, fields, areFrame, frameWritten, kindOf};
 ghost use Rattle.desk_answers.specs.Answers.{deskRoom, made, replyOf, tells, whyOf, notes as Answers·notes, callsOf, obeyed, notice, answer};
-ghost use Rattle.desk_answers.specs.Promise.{Tells, Passes, noteNumbers, noticeRoom, answerRoom};
+ghost use Rattle.desk_answers.specs.Promise.{Tells, Continues, noteNumbers, noticeRoom, answerRoom};
 use boot::Session;
 use desk_answers::ANSWERED;
 use desk_answers::NOT_UNDERSTOOD;
@@ -26,6 +26,9 @@ use words::SPACE;
 
 // The room for a reply: what either carrier needs.
 const ROOM: usize = can::ROOM;
+
+// The most bytes that a line writes.
+const MOST_BYTES: usize = MOST_CHARACTERS / FIELD;
 
 // How many characters begin the notice that bears a line's number.
 const NOTICE_BEGINS: usize = 2;
@@ -43,63 +46,81 @@ pub struct Telling {
     pub noted: usize,
 }
 
-// What is so after bytes were taken at once: the session, and how many characters they were.
-pub struct Passed {
-    pub session: Session,
-    pub characters: usize,
+// What is so after the front of some bytes was told, and how many bytes it had.
+pub struct ToldFront {
+    pub told: Telling,
+    pub count: usize,
 }
 
-// Makes the call of one byte, prints its reply and notes its NACK.
-fn tell_byte(
+// Makes the calls at the front of some bytes, those that are only gathered and one more, prints the reply and notes the NACK.
+fn tell_front(
     begun: Telling,
-    byte: u8,
+    bytes: &[u8],
+    flash: &mut [u8],
+    sram: &mut [u8],
+    usd: &mut [u8],
+    out: &mut [u8],
+    notes: &mut [u16],
+) -> ToldFront
+    requires { ⌜ 0 < length (now bytes) ⌝ }
+    requires { ⌜ begun .end + deskRoom * fieldCharacters ≤ length (now out) ⌝ }
+    requires { ⌜ begun .noted + noteNumbers ≤ length (now notes) ⌝ }
+    ensures some { λ r. ⌜ (0 < r .count) × (r .count ≤ length (now (bytes .entry))) ⌝ }
+    ensures told { λ r. ⌜ Continues (tells (map (Byte deskRoom) (drop (r .count) (now (bytes .entry)))) (stateOf (r .told .session) (are flash sram usd)))
+        (r .told .end) (now (out .exit)) (tells (map (Byte deskRoom) (now (bytes .entry))) (stateOf (begun .session) (were flash sram usd)))
+        (begun .end) (now (out .entry)) ⌝ }
+    ensures noted { λ r. ⌜ Continues (Answers·notes (map (Byte deskRoom) (drop (r .count) (now (bytes .entry)))) (stateOf (r .told .session) (are flash sram usd)))
+        (r .told .noted) (now (notes .exit)) (Answers·notes (map (Byte deskRoom) (now (bytes .entry))) (stateOf (begun .session) (were flash sram usd)))
+        (begun .noted) (now (notes .entry)) ⌝ }
+    ensures fits { λ r. ⌜ (r .told .end ≤ begun .end + deskRoom * fieldCharacters) × (r .told .noted ≤ begun .noted + noteNumbers) ⌝ }
+{
+    let mut buffer = [0u8; ROOM];
+    let session = begun.session;
+    let front = session.take_front(bytes, flash, sram, usd, &mut buffer);
+    let taken = front.taken;
+    let next = taken.session;
+    let n = taken.length;
+    let end = desk_print::bytes(&buffer, n, out, begun.end);
+    let noted = why::note(taken.reason, taken.place, notes, begun.noted);
+    let told = Telling {
+        session: next,
+        end: end,
+        noted: noted,
+    };
+    ToldFront {
+        told: told,
+        count: front.silent + 1,
+    }
+}
+
+// Makes the calls of bytes one after another, prints their replies and notes their NACKs.
+fn tell_all(
+    begun: Telling,
+    bytes: &[u8],
     flash: &mut [u8],
     sram: &mut [u8],
     usd: &mut [u8],
     out: &mut [u8],
     notes: &mut [u16],
 ) -> Telling
-    requires { ⌜ begun .end + deskRoom * fieldCharacters ≤ length (now out) ⌝ }
-    requires { ⌜ begun .noted + noteNumbers ≤ length (now notes) ⌝ }
-    ensures told { λ r. ⌜ Tells (made replyOf (Byte deskRoom byte) (stateOf (begun .session) (were flash sram usd))) (begun .end) (now (out .entry))
-        (r .end) (now (out .exit)) (stateOf (r .session) (are flash sram usd)) ⌝ }
-    ensures noted { λ r. ⌜ Tells (made whyOf (Byte deskRoom byte) (stateOf (begun .session) (were flash sram usd))) (begun .noted) (now (notes .entry))
-        (r .noted) (now (notes .exit)) (stateOf (r .session) (are flash sram usd)) ⌝ }
-    ensures fits { λ r. ⌜ (r .end ≤ begun .end + deskRoom * fieldCharacters) × (r .noted ≤ begun .noted + noteNumbers) ⌝ }
+    requires { ⌜ begun .end + deskRoom * fieldCharacters * length (now bytes) ≤ length (now out) ⌝ }
+    requires { ⌜ begun .noted + noteNumbers * length (now bytes) ≤ length (now notes) ⌝ }
+    ensures told { λ r. ⌜ Tells (tells (map (Byte deskRoom) (now (bytes .entry))) (stateOf (begun .session) (were flash sram usd)))
+        (begun .end) (now (out .entry)) (r .end) (now (out .exit)) (stateOf (r .session) (are flash sram usd)) ⌝ }
+    ensures noted { λ r. ⌜ Tells (Answers·notes (map (Byte deskRoom) (now (bytes .entry))) (stateOf (begun .session) (were flash sram usd)))
+        (begun .noted) (now (notes .entry)) (r .noted) (now (notes .exit)) (stateOf (r .session) (are flash sram usd)) ⌝ }
+    ensures fits { λ r. ⌜ (r .end ≤ begun .end + deskRoom * fieldCharacters * length (now (bytes .entry)))
+        × (r .noted ≤ begun .noted + noteNumbers * length (now (bytes .entry))) ⌝ }
 {
-    let mut buffer = [0u8; ROOM];
-    let session = begun.session;
-    let taken = session.take_byte(byte, flash, sram, usd, &mut buffer);
-    let next = taken.session;
-    let n = taken.length;
-    let end = desk_print::bytes(&buffer, n, out, begun.end);
-    let noted = why::note(taken.reason, taken.place, notes, begun.noted);
-    Telling {
-        session: next,
-        end: end,
-        noted: noted,
+    let n = bytes.len();
+    let mut told = begun;
+    let mut i = 0;
+    while i < n {
+        let front = tell_front(told, &bytes[i..], flash, sram, usd, out, notes);
+        told = front.told;
+        i += front.count;
     }
-}
-
-// Takes at once as many of the first hex bytes as the session only gathers, given whether the memories have their lengths.
-fn pass(session: Session, rest: &[u8], right: bool) -> Passed
-    requires { ⌜ T (areFields (now rest)) ⌝ }
-    ensures { λ r. ⌜ Passes session right (now (rest .entry)) (r .session) (r .characters) ⌝ }
-{
-    let n = gathering::silent_bytes(session, rest.len() / FIELD, right);
-    if n == 0 {
-        return Passed {
-            session: session,
-            characters: 0,
-        };
-    }
-    let characters = FIELD * n;
-    let mut new = [0u8; memories::STAGED];
-    desk_written::bytes(&rest[..characters], &mut new);
-    Passed {
-        session: session.gather(&new[..n]),
-        characters: characters,
-    }
+    told
 }
 
 // Makes the calls of hex bytes one after another, prints their replies and notes their NACKs.
@@ -112,7 +133,7 @@ fn tell_bytes(
     out: &mut [u8],
     notes: &mut [u16],
 ) -> Telling
-    requires { ⌜ T (areFields (now rest)) ⌝ }
+    requires { ⌜ T (areFields (now rest)) × (length (now rest) ≤ mostCharacters) ⌝ }
     requires { ⌜ begun .end + deskRoom * length (now rest) ≤ length (now out) ⌝ }
     requires { ⌜ begun .noted + length (now rest) ≤ length (now notes) ⌝ }
     ensures told { λ r. ⌜ Tells (tells (map (Byte deskRoom) (fields (now (rest .entry)))) (stateOf (begun .session) (were flash sram usd)))
@@ -121,24 +142,9 @@ fn tell_bytes(
         (begun .noted) (now (notes .entry)) (r .noted) (now (notes .exit)) (stateOf (r .session) (are flash sram usd)) ⌝ }
     ensures fits { λ r. ⌜ (r .end ≤ begun .end + deskRoom * length (now (rest .entry))) × (r .noted ≤ begun .noted + length (now (rest .entry))) ⌝ }
 {
-    let n = rest.len();
-    let right = boot::take::lengths_right(flash.len(), sram.len(), usd.len());
-    let mut told = begun;
-    let mut i = 0;
-    while i < n {
-        let here = told.session;
-        let passed = pass(here, &rest[i..], right);
-        let next = passed.session;
-        i += passed.characters;
-        told.session = next;
-        if n <= i {
-            continue;
-        }
-        let byte = desk_written::byte_at(rest, i);
-        told = tell_byte(told, byte, flash, sram, usd, out, notes);
-        i += FIELD;
-    }
-    told
+    let mut written = [0u8; MOST_BYTES];
+    let n = desk_written::bytes(rest, &mut written);
+    tell_all(begun, &written[..n], flash, sram, usd, out, notes)
 }
 
 // Makes the call of the frame that characters write, prints the frames of its reply and notes its NACK.
@@ -187,7 +193,7 @@ fn tell_line(
     out: &mut [u8],
     notes: &mut [u16],
 ) -> Telling
-    requires { ⌜ kind ≡ kindOf (now line) ⌝ }
+    requires { ⌜ (kind ≡ kindOf (now line)) × (length (now line) ≤ mostCharacters) ⌝ }
     requires { ⌜ begun .end + deskRoom * length (now line) ≤ length (now out) ⌝ }
     requires { ⌜ begun .noted + length (now line) ≤ length (now notes) ⌝ }
     ensures told { λ r. ⌜ Tells (tells (callsOf kind (now (line .entry))) (stateOf (begun .session) (were flash sram usd))) (begun .end) (now (out .entry))

@@ -16,8 +16,8 @@ use Rattle.boot.specs.Session.{withTaken, gathered}
 use Rattle.boot.specs.Calls.{State, Framed, call}
 use Rattle.boot.specs.Promise.{stateOf}
 use Rattle.boot.specs.declared.Session.{Session}
-use Rattle.gathering.specs.Gathering.{HearsFrames}
-use Rattle.gathering.proofs.Silent.{onlyGathered, all-fit, silent-id, still-hears, gathers-frame}
+use Rattle.boot.specs.Gathering.{HearsFrames}
+use Rattle.boot.proofs.Silent.{onlyGathered, all-fit, silent-id, still-hears, gathers-frame}
 use Rattle.desk_lines.specs.Lines.{lineFeed, idCharacters, fields, idIn, frameWritten}
 use Rattle.desk_lines.proofs.Lines.{FrameGood, frame-good, data-fits}
 use Rattle.desk_written.specs.First.{endless, behindLetter}

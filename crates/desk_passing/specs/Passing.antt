@@ -7,7 +7,7 @@ use lib.ListN.{length, take, drop}
 use Rattle.memories.specs.Memories.{Memories, proper}
 use Rattle.boot.specs.Promise.{stateOf}
 use Rattle.boot.specs.declared.Session.{Session}
-use Rattle.gathering.specs.Gathering.{SilentFrame}
+use Rattle.boot.specs.Gathering.{SilentFrame}
 use Rattle.desk_lines.specs.Lines.{lineFeed, idCharacters, fields, idIn}
 use Rattle.desk_written.specs.First.{behindLetter, FrameFirst}
 use Rattle.desk_answers.specs.Answers.{answered}

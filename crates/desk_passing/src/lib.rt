@@ -39,7 +39,7 @@ fn silent_line(step: u8, taken: usize, expected: usize, text: &[u8], new: &mut [
     }
     let count = desk_written::bytes(&text[1 + ID..end], new);
     let id = desk_written::id(&text[1..end]);
-    let silent = gathering::silent_frame(step, taken, expected, id, count);
+    let silent = boot::gathering::silent_frame(step, taken, expected, id, count);
     if silent {
         Silent {
             end: end,
@@ -57,7 +57,7 @@ pub fn gather(session: Session, text: &[u8], right: bool) -> Gathered
     let mut here = session;
     let mut lines = 0u64;
     let mut i = 0;
-    let hears = gathering::hears_frames(session, right);
+    let hears = boot::gathering::hears_frames(session, right);
     if !hears {
         return Gathered {
             session: here,

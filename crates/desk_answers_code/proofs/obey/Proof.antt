@@ -20,7 +20,7 @@ use Rattle.desk_answers_code.proofs.obey.Tie as tie
 tell-line-requires : tie.Need-tell-line-requires
 tell-line-requires c κs =
     let start = c .before .before .before .before .before .before .before .before .before .before in
-    (start .pre .0, (simp length-set (omega arith), omega (arith, start .pre .1 .0)))
+    ((start .pre .0, start .pre .1 .0), (simp length-set (omega arith), omega (arith, start .pre .1 .0)))
 
 slice-write-out-2 : tie.Need-slice-write-out-2
 slice-write-out-2 c =

@@ -17,14 +17,14 @@ sub-tell-bytes : tie.Need-sub-tell-bytes
 unfolding makes
 sub-tell-bytes c =
     let start = c .before .before .before .before .before .before .before .before in
-    let b = bytes-line (start .args .line .now) (sym (start .pre .0) ∙ c .enum-told .given .1) in
+    let b = bytes-line (start .args .line .now) (sym (start .pre .0 .0) ∙ c .enum-told .given .1) in
     omega (arith, b .0)
 
 part-tell-bytes-start : tie.Need-part-tell-bytes-start
 unfolding makes
 part-tell-bytes-start c =
     let start = c .before .before .before .before .before .before .before .before in
-    let b = bytes-line (start .args .line .now) (sym (start .pre .0) ∙ c .enum-told .given .1) in
+    let b = bytes-line (start .args .line .now) (sym (start .pre .0 .0) ∙ c .enum-told .given .1) in
     omega (arith, b .0)
 
 tell-bytes-requires : tie.Need-tell-bytes-requires
@@ -33,21 +33,21 @@ tell-bytes-requires c κs =
     let after-enum-told = c .before .before .before .before .before .before in
     let start = after-enum-told .before .before .before .before .before .before .before .before in
     let l = start .args .line .now in
-    let b = bytes-line l (sym (start .pre .0) ∙ after-enum-told .enum-told .given .1) in
-    rw (to-the-end 1 l) (b .1, (simp length-drop (omega arith), simp length-drop (omega arith)))
+    let b = bytes-line l (sym (start .pre .0 .0) ∙ after-enum-told .enum-told .given .1) in
+    rw (to-the-end 1 l) ((b .1, simp length-drop (omega (arith, start .pre .0 .1))), (simp length-drop (omega arith), simp length-drop (omega arith)))
 
 sub-tell-frame : tie.Need-sub-tell-frame
 unfolding makes
 sub-tell-frame c =
     let start = c .before .before .before .before .before .before .before .before in
-    let b = frame-line (start .args .line .now) (sym (start .pre .0) ∙ c .enum-told2 .given .1) in
+    let b = frame-line (start .args .line .now) (sym (start .pre .0 .0) ∙ c .enum-told2 .given .1) in
     omega (arith, b .0)
 
 part-tell-frame-start : tie.Need-part-tell-frame-start
 unfolding makes
 part-tell-frame-start c =
     let start = c .before .before .before .before .before .before .before .before in
-    let b = frame-line (start .args .line .now) (sym (start .pre .0) ∙ c .enum-told2 .given .1) in
+    let b = frame-line (start .args .line .now) (sym (start .pre .0 .0) ∙ c .enum-told2 .given .1) in
     omega (arith, b .0)
 
 tell-frame-requires : tie.Need-tell-frame-requires
@@ -56,7 +56,7 @@ tell-frame-requires c κs =
     let after-enum-told2 = c .before .before .before .before .before .before in
     let start = after-enum-told2 .before .before .before .before .before .before .before .before in
     let l = start .args .line .now in
-    let b = frame-line l (sym (start .pre .0) ∙ after-enum-told2 .enum-told2 .given .1) in
+    let b = frame-line l (sym (start .pre .0 .0) ∙ after-enum-told2 .enum-told2 .given .1) in
     rw (to-the-end 1 l) (b .1, (simp length-drop (omega arith), simp length-drop (omega arith)))
 
 returns : tie.Need-returns

@@ -8,7 +8,7 @@ use lib.Dec.{T}
 use lib.ListN.{length, drop}
 use Rattle.words.proofs.Slices.{to-the-end}
 use Rattle.boot.proofs.Sound.{sound-taken, sound-expected}
-use Rattle.gathering.specs.Gathering.{HearsFrames}
+use Rattle.boot.specs.Gathering.{HearsFrames}
 use Rattle.desk_passing.specs.Passing.{SilentLine, PassesLines}
 use Rattle.desk_passing.proofs.Passing.{none-passed, went-on, few-brought}
 use Rattle.desk_passing.proofs.gather.Statement.{statement}

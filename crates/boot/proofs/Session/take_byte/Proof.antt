@@ -45,7 +45,7 @@ returns c =
     let after-byte-cause = after-accepts .before in
     let entry = after-byte-cause .before .before .before .before .before in
     refused-took (given entry) (after-byte-cause .byte-cause .result) (after-byte-cause .byte-cause .ensures)
-    (sym (after-accepts .accepts .ensures) ∙ not-true (after-accepts .accepts .result) (then1 .if1 .taken)) (c .refused .ensures)
+    (sym (after-accepts .accepts .ensures) ∙ not-true (after-accepts .accepts .result) (then1 .if1 .taken)) (c .unanswered .ensures)
 
 gather-byte-requires : tie.Need-gather-byte-requires
 gather-byte-requires c κs =

@@ -52,7 +52,7 @@ returns c =
     let after-frame-cause = after-accepts .before in
     let entry = after-frame-cause .before .before .before .before .before .before in
     refused-took (given entry) (after-frame-cause .frame-cause .result) (after-frame-cause .frame-cause .ensures)
-    (sym (after-accepts .accepts .ensures) ∙ not-true (after-accepts .accepts .result) (then1 .if1 .taken)) (c .refused .ensures)
+    (sym (after-accepts .accepts .ensures) ∙ not-true (after-accepts .accepts .result) (then1 .if1 .taken)) (c .unanswered .ensures)
 
 id-requires : tie.Need-id-requires
 id-requires c κs = omega (arith, frame-length (start c .args .frame .now) (cleared c .formed))

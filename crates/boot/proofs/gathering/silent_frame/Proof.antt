@@ -6,9 +6,9 @@ use Prim.Native.Nat.{_-_}
 use lib.Dec.{eqb, ltb, eqb→eq, ltb→lt}
 use Rattle.words.proofs.Tests.{holds-true}
 use mathlib.Core.Bool.{_&&_}
-use Rattle.gathering.proofs.Silent.{all-three}
-use Rattle.gathering.proofs.silent_frame.Statement.{statement}
-use Rattle.gathering.proofs.silent_frame.Tie as tie
+use Rattle.boot.proofs.Silent.{all-three}
+use Rattle.boot.proofs.gathering.silent_frame.Statement.{statement}
+use Rattle.boot.proofs.gathering.silent_frame.Tie as tie
 
 returns : tie.Need-returns
 returns c =

@@ -2,11 +2,11 @@
 use borrow.Author.Needs.{needs}
 use Rattle.words.proofs.Tests.{holds-true}
 use mathlib.Core.Bool.{_&&_}
 use Rattle.boot.specs.Session.{on, sound}
 use Rattle.carriers.specs.declared.Carrier.the-variants.{Can}
-use Rattle.gathering.proofs.Silent.{all-three}
-use Rattle.gathering.proofs.hears_frames.Statement.{statement}
-use Rattle.gathering.proofs.hears_frames.Tie as tie
+use Rattle.boot.proofs.Silent.{all-three}
+use Rattle.boot.proofs.gathering.hears_frames.Statement.{statement}
+use Rattle.boot.proofs.gathering.hears_frames.Tie as tie
 
 returns : tie.Need-returns
 returns c =

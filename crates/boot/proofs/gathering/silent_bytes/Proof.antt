@@ -2,12 +2,12 @@
 use borrow.Author.Needs.{needs}
 use native.Mathlib.Omega.{arith}
 use lib.Dec.{T}
 use Rattle.boot.specs.Session.{on, sound}
 use Rattle.carriers.specs.declared.Carrier.the-variants.{Uart}
 use Rattle.boot.proofs.Sound.{sound-taken}
-use Rattle.gathering.proofs.Silent.{all-three}
-use Rattle.gathering.proofs.silent_bytes.Statement.{statement}
-use Rattle.gathering.proofs.silent_bytes.Tie as tie
+use Rattle.boot.proofs.Silent.{all-three}
+use Rattle.boot.proofs.gathering.silent_bytes.Statement.{statement}
+use Rattle.boot.proofs.gathering.silent_bytes.Tie as tie
 
 -- the start of the call whose test held
 abbrev start : tie.Then1 → tie.Start

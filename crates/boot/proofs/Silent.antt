@@ -1,16 +1,16 @@
 -- Bytes that a session connected to UART only gathers: each is accepted, says nothing and changes no memory, so that many may be taken at once.
 use mathlib.Core.Path.{_≡_, refl, sym, ap, ap₂, subst, _∙_}
 use mathlib.Core.Bool.{Bool, true, false, _&&_}
-use mathlib.Core.List.{List, [], _∷_}
-use Prim.Native.Nat.{ℕ, _+_, _-_, _≤_, _<_}
+use mathlib.Core.List.{List, [], _∷_, _++_}
+use Prim.Native.Nat.{ℕ, zero, suc, _+_, _-_, _≤_, _<_}
 use native.Mathlib.Omega.{arith}
-use lib.Dec.{T, leb, ltb, eqb→eq}
-use lib.ListN.{length}
+use lib.Dec.{T, leb, ltb, eqb→eq, leb→le}
+use lib.ListN.{length, take, drop, getD}
 use borrow.Author.Tests.{le-leb, lt-ltb, eq-eqb, ne-eqb}
-use lib.Seq.{take-all}
-use Rattle.words.specs.Over.{put}
-use Rattle.words.proofs.Over.{put-then}
-use Rattle.words.proofs.Tests.{both-left, holds-true}
+use lib.Seq.{take-all, take-nil, split-at, length-take-le}
+use Rattle.words.specs.Over.{put, newer}
+use Rattle.words.proofs.Over.{over-none, put-then}
+use Rattle.words.proofs.Tests.{both-left, both-right, holds-true}
 use Rattle.board.specs.declared.View.{View}
 use Rattle.memories.specs.Memories.{proper}
 use Rattle.memories.specs.Effects.{effect}
@@ -31,16 +31,16 @@ use Rattle.can.specs.Conversation as CC
 use Rattle.can.specs.declared.Step as CS
 use Rattle.can.specs.declared.Step.the-variants as CSV
 use Rattle.uart.specs.Conversation.{uartRoom, heard}
 use Rattle.boot.specs.Session.{on, sound, progress, withTaken, gathered, after}
 use Rattle.carriers.specs.Carriers.{stepSound}
 use Rattle.boot.specs.Causes.{causeOf}
 use Rattle.boot.specs.Decide.{connected, decideByte, decideFrame}
 use Rattle.boot.specs.Calls.{State, Byte, Framed, Outcome, viewIn, causeFor, decide, sent, perform, call}
-use Rattle.gathering.specs.Gathering.{HearsFrames, SilentFrame}
+use Rattle.boot.specs.Gathering.{Gathers, HearsFrames, SilentFrame}
 use Rattle.carriers.specs.declared.Carrier.the-variants.{Uart, Can}
 use Rattle.boot.specs.declared.Cause.the-variants.{Accepted}
 use Rattle.boot.specs.declared.Session.{Session}
 use Rattle.boot.proofs.Sound.{can-expects}
 
 -- what a call leaves that only gathers bytes
 abbrev pub onlyGathered : List ℕ → State → Outcome
@@ -84,6 +84,12 @@ gathered-more b bs s h =
     (put-then (s .staged) (s .taken) (s .taken + 1) (b ∷ []) bs (omega arith))
     ∙ sym (all-fit (b ∷ bs) s (omega arith))
 
+-- no bytes change nothing
+pub none-gathered : (s : Session) → gathered [] s ≡ s
+none-gathered s =
+    rw (take-nil {A = ℕ} (s .expected - s .taken))
+    (ap₂ (λ (n : ℕ) (l : List ℕ). withTaken n l s) (omega arith) (over-none newer (s .staged) (s .taken)))
+
 -- and a session that expects more stays sound
 pub gathered-sound : (new : List ℕ) (s : Session) → T (sound s) → s .taken + length new < s .expected → T (sound (gathered new s))
 unfolding sound
@@ -91,6 +97,39 @@ gathered-sound new s t h =
     let a = leb (s .carrier) 3 && leb (s .speed) 3 && stepSound (s .carrier) (s .step) (s .expected) in
     let l = take-all (s .expected - s .taken) new (omega arith) in
     rw (holds-true a (both-left a (ltb (s .taken) (s .expected)) t), l, lt-ltb (s .taken + length new) (s .expected) h) tt
+
+-- whatever a call that only gathers a byte leaves as it is, counting it, many leave so, counting them
+module _ {X : Type 0} (f : ℕ → List ℕ → State → X) (room : ℕ)
+    (one : (i b : ℕ) (bs : List ℕ) (p : State) → call (Byte room b) p ≡ onlyGathered (b ∷ []) p
+    → f i (b ∷ bs) p ≡ f (i + 1) bs (onlyGathered (b ∷ []) p .state)) where
+  all-passed : (new bs : List ℕ) (i : ℕ) (p : State) → uartRoom ≤ room → T (proper (p .memories)) → T (on Uart (p .session))
+      → T (sound (p .session)) → p .session .taken + length new < p .session .expected
+      → f i (new ++ bs) p ≡ f (i + length new) bs (onlyGathered new p .state)
+  all-passed [] bs i p r m u s h =
+      ap₂ (λ (n : ℕ) (t : Session). f n bs (record { session = t; memories = p .memories })) (omega arith) (sym (none-gathered (p .session)))
+  all-passed (b ∷ new) bs i p r m u s h =
+      one i b (new ++ bs) p (gathers-byte room b p m r u s (omega arith))
+      ∙ all-passed new bs (i + 1) (onlyGathered (b ∷ []) p .state) r m u (gathered-sound (b ∷ []) (p .session) s (omega arith))
+      (rw (take-all (p .session .expected - p .session .taken) (b ∷ []) (omega arith)) (omega arith))
+      ∙ ap₂ (λ (n : ℕ) (t : Session). f n bs (record { session = t; memories = p .memories })) (omega arith)
+      (gathered-more b new (p .session) (omega arith))
+
+  -- so does the front of a slice
+  pub front-passed : (bs : List ℕ) (i n : ℕ) (p : State) → n < length bs
+      → (0 < n → Gathers (p .session) (proper (p .memories) && leb uartRoom room) n)
+      → f i bs p ≡ f (i + n) (getD bs n 0 ∷ drop (suc n) bs) (onlyGathered (take n bs) p .state)
+  front-passed bs i zero p w g =
+      ap (λ (cs : List ℕ). f i cs p) (split-at bs 0 0 w)
+      ∙ ap₂ (λ (k : ℕ) (t : Session). f k (getD bs 0 0 ∷ drop 1 bs) (record { session = t; memories = p .memories })) (omega arith)
+      (sym (none-gathered (p .session)))
+  front-passed bs i (suc n) p w g =
+      let h = g (omega arith) in
+      let l = length-take-le (suc n) bs (omega arith) in
+      ap (λ (cs : List ℕ). f i cs p) (split-at bs (suc n) 0 w)
+      ∙ all-passed (take (suc n) bs) (getD bs (suc n) 0 ∷ drop (suc (suc n)) bs) i p
+      (leb→le uartRoom room (both-right (proper (p .memories)) (leb uartRoom room) (h .lengths)))
+      (both-left (proper (p .memories)) (leb uartRoom room) (h .lengths)) (h .here) (h .firm) (omega (arith, h .short))
+      ∙ ap (λ (k : ℕ). f (i + k) (getD bs (suc n) 0 ∷ drop (suc (suc n)) bs) (onlyGathered (take (suc n) bs) p .state)) l
 
 -- three tests that hold together
 pub all-three : (a b d : Bool) → a && b && d ≡ true → T a × T b × T d

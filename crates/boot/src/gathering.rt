@@ -1,8 +1,8 @@
 // Input that a session only gathers, which may be taken at once.
 ghost use Prim.Native.Nat.{_≤_, _<_};
 ghost use lib.Dec.{T};
-ghost use Rattle.gathering.specs.Gathering.{Gathers, HearsFrames, SilentFrame};
-use boot::Session;
+ghost use Rattle.boot.specs.Gathering.{Gathers, HearsFrames, SilentFrame};
+use crate::Session;
 use carriers::Carrier;
 
 // How many of n bytes the session only gathers, given whether the memories have their lengths: taking them at once is taking them one by one.
