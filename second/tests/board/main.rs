@@ -7,5 +7,6 @@ mod crc;
 mod desk;
 mod files;
 mod programs;
+mod slices;
 mod talks;
 mod vectors;
