@@ -1,4 +1,4 @@
-//! The program `desk`: it reads lines in chunks, talks to one board and prints the answers, and why each NACK fell if that is asked.
+//! The program `desk`: it takes lines in chunks, talks to one board and prints the answers, and why each NACK fell if that is asked.
 
 use crate::calls::{can_frame_in_place, uart_byte_in_place, Cause, Taken, CAN_REPLY_BYTES};
 use crate::frame::{frame_bytes, FRAME_BYTES, FRAME_HEAD_BYTES};
@@ -7,10 +7,7 @@ use crate::line::{Line, LINE_BYTES, LINE_CHARACTERS};
 use crate::memories::Store;
 use crate::refused::Reason;
 use crate::session::Session;
-use std::io::{self, ErrorKind, Read, Write};
-
-/// The most bytes taken by one read.
-const CHUNK_BYTES: usize = 65_536;
+use crate::stream::Answers;
 
 /// The character that ends a line.
 const LF: u8 = b'\n';
@@ -29,33 +26,16 @@ pub struct Desk {
 }
 
 impl Desk {
-    /// A fresh board, just powered, and no line read yet.
-    pub fn fresh(why: bool) -> Desk {
+    /// A board with these memories, just powered, and no line read yet.
+    pub fn with(store: Store, why: bool) -> Desk {
         Desk {
-            store: Store::fresh(),
+            store,
             session: Session::power_on(),
             reply: [0; CAN_REPLY_BYTES],
             held: Vec::with_capacity(LINE_CHARACTERS + 1),
             lines: 0,
             why,
             nacks: Vec::new(),
-        }
-    }
-
-    /// Takes a chunk of input and adds the answer to each line that ends in it.
-    pub fn take(&mut self, chunk: &[u8], answers: &mut Vec<u8>) {
-        let mut rest = chunk;
-        while let Some(end) = rest.iter().position(|character| *character == LF) {
-            self.end_line(&rest[..end], answers);
-            rest = &rest[end + 1..];
-        }
-        self.hold(rest);
-    }
-
-    /// Takes the end of the input, which ends a last line that lacks its LF.
-    pub fn finish(&mut self, answers: &mut Vec<u8>) {
-        if !self.held.is_empty() {
-            self.end_line(&[], answers);
         }
     }
 
@@ -131,33 +111,28 @@ impl Desk {
     }
 }
 
-/// Runs a fresh desk, which tells why NACKs fell or not, to the end of the input, with at most one write for each read.
-pub fn run(why: bool, input: &mut impl Read, output: &mut impl Write) -> io::Result<()> {
-    let mut desk = Desk::fresh(why);
-    let mut chunk = vec![0; CHUNK_BYTES];
-    let mut answers = Vec::new();
-    loop {
-        let length = match input.read(&mut chunk) {
-            Err(error) if error.kind() == ErrorKind::Interrupted => continue,
-            read => read?,
-        };
-        if length == 0 {
-            desk.finish(&mut answers);
-            return send(&mut answers, output);
+impl Answers for Desk {
+    /// Takes a chunk of input and adds the answer to each line that ends in it.
+    fn take(&mut self, chunk: &[u8], answers: &mut Vec<u8>) {
+        let mut rest = chunk;
+        while let Some(end) = rest.iter().position(|character| *character == LF) {
+            self.end_line(&rest[..end], answers);
+            rest = &rest[end + 1..];
         }
-        desk.take(&chunk[..length], &mut answers);
-        send(&mut answers, output)?;
+        self.hold(rest);
     }
-}
 
-/// Writes the answers gathered so far, if any, and forgets them.
-fn send(answers: &mut Vec<u8>, output: &mut impl Write) -> io::Result<()> {
-    if !answers.is_empty() {
-        output.write_all(answers)?;
-        output.flush()?;
-        answers.clear();
+    /// Takes the end of the input, which ends a last line that lacks its LF.
+    fn finish(&mut self, answers: &mut Vec<u8>) {
+        if !self.held.is_empty() {
+            self.end_line(&[], answers);
+        }
     }
-    Ok(())
+
+    /// The memories as they are.
+    fn store(&self) -> &Store {
+        &self.store
+    }
 }
 
 /// Prints a frame after a space as ID:data, the ID three digits and the DLC bytes unspaced.

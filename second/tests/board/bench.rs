@@ -1,7 +1,7 @@
 //! What tests share: a board that is spoken to in hex, as document 01 writes its talks, and a program that is run.
 
 use second::{take_can_frame, take_uart_byte, Outcome, Session, Store, ACCEPTED};
-use std::io::Write;
+use std::io::{self, Read, Write};
 use std::path::Path;
 use std::process::{Command, Stdio};
 
@@ -122,4 +122,35 @@ pub fn run(folder: &Path, program: &str, words: &str, input: &str) -> (String, S
     let output = started.wait_with_output().unwrap();
     let text = |bytes: Vec<u8>| bytes.into_iter().map(char::from).collect();
     (text(output.stdout), text(output.stderr), output.status.code().unwrap())
+}
+
+/// An input that hands out one part, or fails once, at each read.
+pub struct Parts(pub Vec<io::Result<Vec<u8>>>);
+
+impl Read for Parts {
+    /// Hands out the next part.
+    fn read(&mut self, buffer: &mut [u8]) -> io::Result<usize> {
+        if self.0.is_empty() {
+            return Ok(0);
+        }
+        let part = self.0.remove(0)?;
+        buffer[..part.len()].copy_from_slice(&part);
+        Ok(part.len())
+    }
+}
+
+/// An output that keeps each write apart.
+pub struct Writes(pub Vec<Vec<u8>>);
+
+impl Write for Writes {
+    /// Keeps a write.
+    fn write(&mut self, bytes: &[u8]) -> io::Result<usize> {
+        self.0.push(bytes.to_vec());
+        Ok(bytes.len())
+    }
+
+    /// Does nothing, since nothing is held.
+    fn flush(&mut self) -> io::Result<()> {
+        Ok(())
+    }
 }

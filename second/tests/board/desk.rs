@@ -1,7 +1,9 @@
 //! The lines of `desk`: what is no line, how long one may be, and when answers are written.
 
-use crate::bench;
-use second::desk::run;
+use crate::bench::{self, Parts, Writes};
+use second::desk::Desk;
+use second::stream::{serve, Broken};
+use second::Store;
 use std::io::{self, BufRead, BufReader, Read, Write};
 use std::path::Path;
 use std::process::{Command, Stdio};
@@ -26,10 +28,15 @@ const NO_LINES: &str = "||U|U |U 7|U 7f|U 7F |U  7F| U 7F|U7F|u 7F|U 7F\r|U\t7F|
     U 7G|U 7F\0|U 7F #|U\u{A0}7F|U 7F  7F|U 079|U /0|C|C |C 79|C 07|C 079 |C 0079|C  079|C 079 1|C 079 aB|C 07a|C079|c 079|\
     C 079  01|C 079 0102|C 07G|C 079\r|C\t079|C 079 01 02 03 04 05 06 07 08 09| |P | P|P\r|p|PP|P 00|Q|?|>|\0";
 
+/// Runs a desk without reasons on a fresh board.
+fn run(input: &mut impl Read, output: &mut impl Write) -> Result<(), Broken> {
+    serve(&mut Desk::with(Store::fresh(), false), None, input, output)
+}
+
 /// What desk prints for an input.
 fn desk(input: impl AsRef<[u8]>) -> String {
     let mut output = Vec::new();
-    run(false, &mut input.as_ref(), &mut output).unwrap();
+    run(&mut input.as_ref(), &mut output).unwrap();
     String::from_utf8(output).unwrap()
 }
 
@@ -75,51 +82,20 @@ fn long_lines() {
     assert_eq!(desk(format!("{endless}\nU 7F\n{endless}")), "? 1\n> 79\n? 3\n");
 }
 
-/// An input that hands out one part, or fails once, at each read.
-struct Parts(Vec<io::Result<Vec<u8>>>);
-
-impl Read for Parts {
-    /// Hands out the next part.
-    fn read(&mut self, buffer: &mut [u8]) -> io::Result<usize> {
-        if self.0.is_empty() {
-            return Ok(0);
-        }
-        let part = self.0.remove(0)?;
-        buffer[..part.len()].copy_from_slice(&part);
-        Ok(part.len())
-    }
-}
-
-/// An output that keeps each write apart.
-struct Writes(Vec<String>);
-
-impl Write for Writes {
-    /// Keeps a write.
-    fn write(&mut self, bytes: &[u8]) -> io::Result<usize> {
-        self.0.push(String::from_utf8(bytes.to_vec()).unwrap());
-        Ok(bytes.len())
-    }
-
-    /// Does nothing, since nothing is held.
-    fn flush(&mut self) -> io::Result<()> {
-        Ok(())
-    }
-}
-
 /// Chunks may end anywhere; each read is followed by at most one write, and none where no line ended.
 #[test]
 fn chunks_and_writes() {
     for size in 1..EXAMPLE_INPUT.len() {
         let parts = EXAMPLE_INPUT.as_bytes().chunks(size);
         let mut output = Writes(vec![]);
-        run(false, &mut Parts(parts.map(|part| Ok(part.to_vec())).collect()), &mut output).unwrap();
-        assert_eq!(output.0.concat(), EXAMPLE_OUTPUT);
+        run(&mut Parts(parts.map(|part| Ok(part.to_vec())).collect()), &mut output).unwrap();
+        assert_eq!(output.0.concat(), EXAMPLE_OUTPUT.as_bytes());
     }
     let parts = ["U 7F\nU 01 ", "FE", "\nP\nC 079\nQ\nU", " 7F"];
     let mut output = Writes(vec![]);
-    run(false, &mut Parts(parts.map(|part| Ok(part.into())).into()), &mut output).unwrap();
+    run(&mut Parts(parts.map(|part| Ok(part.into())).into()), &mut output).unwrap();
     let written = ["> 79\n", "> 79 20 01 07 79\n>\n> 079:79\n? 5\n", ">\n"];
-    assert_eq!(output.0, written);
+    assert_eq!(output.0, written.map(str::as_bytes));
 }
 
 /// An interrupted read is tried again, and a broken input ends the run with its error.
@@ -127,8 +103,8 @@ fn chunks_and_writes() {
 fn interrupted_and_broken_input() {
     let kinds = [io::ErrorKind::Interrupted, io::ErrorKind::BrokenPipe];
     let mut input = Parts(kinds.map(|kind| Err(kind.into())).into());
-    let ended = run(false, &mut input, &mut Vec::new());
-    assert_eq!(ended.unwrap_err().kind(), io::ErrorKind::BrokenPipe);
+    let ended = run(&mut input, &mut Vec::new());
+    assert!(matches!(ended, Err(Broken::Stream(error)) if error.kind() == io::ErrorKind::BrokenPipe));
 }
 
 /// The built program answers line by line while its input stays open.

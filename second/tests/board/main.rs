@@ -6,6 +6,8 @@ mod calls;
 mod crc;
 mod desk;
 mod files;
+mod keeping;
+mod port;
 mod programs;
 mod slices;
 mod talks;

@@ -12,8 +12,9 @@ const RANDOM: [(&str, &str, &str, usize); 3] =
     [(SCRIPT, "uart", "uart count", 3_000), (SCRIPT, "mixed", "mixed count", 5_000), (VECTORS, "generate", "count", 4_500)];
 
 /// Words that are none of a program's, one behind each bar.
-const OTHER_WORDS: [(&str, &str); 6] = [
-    (env!("CARGO_BIN_EXE_desk"), "--help|why|--why --why|--why f|f|--Why|-why"),
+const OTHER_WORDS: [(&str, &str); 7] = [
+    (env!("CARGO_BIN_EXE_desk"), "--help|why|--why --why|--why f|f|--Why|-why|--keep|--why --keep|--keep f --why|--keep f g|--st"),
+    (env!("CARGO_BIN_EXE_port"), "--help|st|--st --st|--st f|f|--ST|--keep|--st --keep|--keep f --st|--keep f g|--why|--keep f --keep f"),
     (env!("CARGO_BIN_EXE_image"), "|--help|f|f new|f new x|f new 32768|f new -32769|f new 0x10|f new 0 old more"),
     (env!("CARGO_BIN_EXE_images"), "--help|f 0|f 0 32770|f x 0"),
     (env!("CARGO_BIN_EXE_srecords"), "|--help|x|1 x|1 2 more|1 2 covered 3"),

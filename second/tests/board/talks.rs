@@ -12,8 +12,9 @@
 //!     = MEMORY ...  = session ...  = fresh  = idle on UART  = idle on CAN  = refused CAUSE  = nack REASON PLACE
 
 use crate::bench::{hex, Bench};
-use second::desk;
+use second::desk::Desk;
 use second::line::{Line, LINE_BYTES};
+use second::stream::serve;
 use second::{Session, Store, ACCEPTED};
 
 /// The talks, which stand in files beside this one.
@@ -177,7 +178,7 @@ fn line_of(said: &str, typed: bool) -> Option<String> {
 fn test_desk(said: &[String], why: bool) {
     let lines = |typed| -> String { said.iter().filter_map(|said| line_of(said, typed)).collect() };
     let (mut printed, all) = (Vec::new(), lines(false));
-    desk::run(why, &mut lines(true).as_bytes(), &mut printed).unwrap();
+    serve(&mut Desk::with(Store::fresh(), why), None, &mut lines(true).as_bytes(), &mut printed).unwrap();
     let expected: String = all.split_inclusive('\n').filter(|line| why || !line.starts_with('!')).collect();
     assert_eq!(String::from_utf8(printed).unwrap(), expected);
 }
