@@ -82,6 +82,8 @@ pub enum Kind {
     Uart,
     /// A talk from power on, on both carriers.
     Mixed,
+    /// The raw bytes of a talk on UART from one power on; only its end brings an obeyed Jump, to the start of flash.
+    Raw,
     /// Single calls on any session and buffers.
     Calls,
 }
@@ -92,11 +94,12 @@ impl Kind {
         let given: &[Given] = match self {
             Kind::Uart => &[Given::Byte, Given::Power, Given::NoLine],
             Kind::Mixed => &[Given::Byte, Given::Frame, Given::Power, Given::NoLine],
+            Kind::Raw => &[Given::Byte],
             Kind::Calls => &[Given::Byte, Given::Frame],
         };
         let mut steps = vec![Some(Step::None), Some(Step::Running)];
         steps.extend(UartStep::ALL.map(|step| Some(Step::Uart(step))));
-        if self != Kind::Uart {
+        if matches!(self, Kind::Mixed | Kind::Calls) {
             steps.extend(CanStep::ALL.map(|step| Some(Step::Can(step))));
         }
         if self == Kind::Calls {
@@ -118,7 +121,13 @@ impl Kind {
         if self == Kind::Calls {
             ends.extend(by_hand.into_iter().map(|end| (None, end)));
         }
-        ends.into_iter().map(|(command, end)| Met { given, at, command, end }).collect()
+        ends.into_iter().filter(|(_, end)| self.may_end(*end)).map(|(command, end)| Met { given, at, command, end }).collect()
+    }
+
+    /// Tells whether inputs of this kind may end so at all: raw bytes obey no Jump but their last.
+    fn may_end(self, end: End) -> bool {
+        let last = End::Did(Effect::Jumped(Memory::Flash, Edge::Least));
+        self != Kind::Raw || end == last || !matches!(end, End::Did(Effect::Jumped(..)))
     }
 
     /// The causes for which a call at a step can be refused.

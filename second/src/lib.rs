@@ -16,6 +16,7 @@ pub mod line;
 pub mod memories;
 pub mod near;
 pub mod port;
+pub mod raw;
 pub mod reached;
 pub mod refused;
 pub mod script;

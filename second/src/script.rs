@@ -10,7 +10,7 @@ use crate::inputs::{Input, Known};
 use crate::line::{Line, LINE_BYTES};
 use crate::memories::Store;
 use crate::reached::Reached;
-use crate::session::{Session, Step};
+use crate::session::{Session, Step, CARRIER_RUNNING};
 
 /// How many lines are tried, while there is something to reach, for the one that reaches the rarest.
 const TRIES: usize = 100;
@@ -41,7 +41,7 @@ impl Board {
         let address = self.session.address;
         self.recent = if address > 0 { address } else { self.recent };
         match Line::read(text, &mut space) {
-            Some(Line::Uart(bytes)) => bytes.iter().map(|byte| self.call(Given::Byte, u16::from(*byte), &[])).collect(),
+            Some(Line::Uart(bytes)) => bytes.iter().map(|byte| self.hear_byte(*byte)).collect(),
             Some(Line::Can(id, data)) => vec![self.call(Given::Frame, id, &frame_bytes(id, data))],
             Some(Line::PowerOn) => {
                 let met = vec![self.no_call(Given::Power, Effect::PoweredOn)];
@@ -50,6 +50,16 @@ impl Board {
             }
             None => vec![self.no_call(Given::NoLine, Effect::Unheard)],
         }
+    }
+
+    /// Takes a UART byte, and tells what the board met.
+    pub fn hear_byte(&mut self, byte: u8) -> Met {
+        self.call(Given::Byte, u16::from(byte), &[])
+    }
+
+    /// Tells whether a Jump was obeyed.
+    pub fn is_running(&self) -> bool {
+        self.session.carrier == CARRIER_RUNNING
     }
 
     /// Takes a byte, or the frame with an ID.
@@ -96,9 +106,10 @@ impl Host {
     /// A line for where a board is.
     fn line(&mut self, board: &Board) -> Vec<u8> {
         let step = board.session.sound_step().ok();
+        let lines = self.kind != Kind::Raw;
         match (self.dice.below(48 + board.session.left()), step) {
-            (0, _) | (8..30, Some(Step::Running)) => b"P".to_vec(),
-            (1..5, _) => self.no_line(),
+            (0, _) | (8..30, Some(Step::Running)) if lines => b"P".to_vec(),
+            (1..5, _) if lines => self.no_line(),
             (5..8, Some(Step::Uart(_))) if self.kind == Kind::Mixed => self.stray(true),
             (5..8, Some(Step::Can(_))) => self.stray(false),
             (_, Some(step @ (Step::Uart(_) | Step::Can(_)))) => self.fitting(board, step),
@@ -177,8 +188,14 @@ impl Walk {
         Walk { board: Board::fresh(), host, reached: Reached::nothing(kind), lines: Vec::new(), open: Vec::new() }
     }
 
-    /// Goes on by the talk, of some that are tried, that meets what was met most rarely.
+    /// Goes on by a talk, and writes its lines.
     pub fn go_on(&mut self) {
+        self.next_talk().into_iter().for_each(|line| self.write(line));
+    }
+
+    /// Goes on by the talk, of some that are tried, that meets what was met most rarely; raw bytes never lead to a board that runs.
+    pub fn next_talk(&mut self) -> Vec<Vec<u8>> {
+        let may_run = self.host.kind != Kind::Raw;
         let rare = self.reached.wanted();
         let natural = rare.is_empty() || self.host.dice.once_in(6);
         let tries = if natural { 1 } else { TRIES };
@@ -186,10 +203,12 @@ impl Walk {
             self.host.wanted = if natural { None } else { self.host.dice.one_of(&rare).to_command() };
             self.host.talk(self.board.clone())
         });
-        if let Some((lines, board)) = self.reached.take_rarest(tried) {
-            self.board = board;
-            lines.into_iter().for_each(|line| self.write(line));
-        }
+        let allowed = tried.filter(|(_, (_, board))| may_run || !board.is_running());
+        let Some((lines, board)) = self.reached.take_rarest(allowed) else {
+            return Vec::new();
+        };
+        self.board = board;
+        lines
     }
 
     /// Writes a line; bytes may stay open for those of the next line, and are cut anywhere.

@@ -13,6 +13,9 @@ const ST_COMMANDS: &str = "79 0D 20 00 01 02 11 21 31 44 63 73 82 92 AC D4 79";
 const DEVICE: &str = "79 04 56 78 12 34 5A 79";
 const ST_DEVICE: &str = "79 04 04 12 12 34 5A 79";
 
+/// A talk that a host tool for ST's boards would have: what is sent, `>`, and what is answered.
+const ST_TALK: &str = include_str!("../../../expected/port-st.hex");
+
 /// What a fresh port answers to bytes that come in parts.
 fn port(parts: &[&[u8]], as_st: bool) -> Vec<Vec<u8>> {
     let mut output = Writes(vec![]);
@@ -33,6 +36,21 @@ fn two_replies_as_st_expects_them() {
     assert_eq!(told("7F 00 FF 02 FD 01 FE", true), format!("79 {ST_COMMANDS} {ST_DEVICE} 79 20 01 07 79"));
     assert_eq!(told("7F 00 FE 02 FC 00 FF", true), format!("79 1F 1F {ST_COMMANDS}"));
     assert_eq!(told("00 FF 02 FD 7F 02 FD", true), format!("79 {ST_DEVICE}"));
+}
+
+/// The talk of `expected/port-st.hex`, line by line and as one read; without `--st` the answers to 00 FF and 02 FD alone are others.
+#[test]
+fn the_talk_of_an_st_host() {
+    let lines = ST_TALK.lines().filter(|line| !line.is_empty() && !line.starts_with('#'));
+    let talk: Vec<(Vec<u8>, Vec<u8>)> =
+        lines.map(|line| line.split_once('>').unwrap()).map(|(sent, said)| (hex(sent), hex(said))).collect();
+    let sent: Vec<&[u8]> = talk.iter().map(|(sent, _)| &sent[..]).collect();
+    let said: Vec<Vec<u8>> = talk.iter().map(|(_, said)| said.clone()).filter(|said| !said.is_empty()).collect();
+    assert_eq!(port(&sent, true), said);
+    assert_eq!(port(&[&sent.concat()], true).concat(), said.concat());
+    let turned = [(hex(ST_COMMANDS), hex(COMMANDS)), (hex(ST_DEVICE), hex(DEVICE))];
+    let plain = |said: &Vec<u8>| turned.iter().find(|(st, _)| st == said).map_or(said.clone(), |(_, plain)| plain.clone());
+    assert_eq!(port(&sent, false), said.iter().map(plain).collect::<Vec<Vec<u8>>>());
 }
 
 /// With `--st` data that look like a reply stay as they are, and so does what a command that is refused or not heard brings.

@@ -1,6 +1,7 @@
 //! The programs that print random inputs, and what every program answers to other words.
 
-use crate::bench::run;
+use crate::bench::{run, Bench};
+use second::Session;
 use std::path::Path;
 use std::thread;
 
@@ -8,8 +9,12 @@ const SCRIPT: &str = env!("CARGO_BIN_EXE_script");
 const VECTORS: &str = env!("CARGO_BIN_EXE_vectors");
 
 /// A program, its words to print random inputs and to count what some reach, and inputs enough to reach everything.
-const RANDOM: [(&str, &str, &str, usize); 3] =
-    [(SCRIPT, "uart", "uart count", 3_000), (SCRIPT, "mixed", "mixed count", 5_000), (VECTORS, "generate", "count", 4_500)];
+const RANDOM: [(&str, &str, &str, usize); 4] = [
+    (SCRIPT, "uart", "uart count", 3_000),
+    (SCRIPT, "mixed", "mixed count", 5_000),
+    (VECTORS, "generate", "count", 4_500),
+    (SCRIPT, "raw", "raw count", 60_000),
+];
 
 /// Words that are none of a program's, one behind each bar.
 const OTHER_WORDS: [(&str, &str); 7] = [
@@ -18,7 +23,7 @@ const OTHER_WORDS: [(&str, &str); 7] = [
     (env!("CARGO_BIN_EXE_image"), "|--help|f|f new|f new x|f new 32768|f new -32769|f new 0x10|f new 0 old more"),
     (env!("CARGO_BIN_EXE_images"), "--help|f 0|f 0 32770|f x 0"),
     (env!("CARGO_BIN_EXE_srecords"), "|--help|x|1 x|1 2 more|1 2 covered 3"),
-    (SCRIPT, "|--help|uart|uart 1|uart 1 x|mixed -1 9|mixed 1 9 all|other 1 9|characters 1|characters covered"),
+    (SCRIPT, "|--help|uart|uart 1|uart 1 x|mixed -1 9|mixed 1 9 all|raw|raw 1|raw 1 x|raw x 1|other 1 9|characters 1|characters covered"),
     (VECTORS, "|--help|generate|generate 1|generate 1 x|generate -1 9|sweep|sweep x|run 1"),
 ];
 
@@ -27,10 +32,10 @@ fn said(program: &str, words: &str, input: &str) -> (String, String, i32) {
     run(Path::new(env!("CARGO_TARGET_TMPDIR")), program, words, input)
 }
 
-/// A seed determines its inputs, another gives others, and fewer are the first of more.
+/// A seed determines its inputs, another gives others, and fewer are the first of more, but for raw bytes, which have an end.
 #[test]
 fn a_seed_determines_its_inputs() {
-    for (program, print, _, _) in RANDOM {
+    for (program, print, _, _) in RANDOM.into_iter().filter(|(_, print, _, _)| *print != "raw") {
         let printed = |seed, count| said(program, &format!("{print} {seed} {count}"), "").0;
         let all = printed(7, 700);
         assert_ne!(all, printed(8, 700));
@@ -38,6 +43,27 @@ fn a_seed_determines_its_inputs() {
             let first: String = all.split_inclusive('\n').take(count).collect();
             assert_eq!((printed(7, count), first.matches('\n').count()), (first, count));
         }
+    }
+}
+
+/// Raw bytes are as many as are wanted; a seed determines them, and the talk before their end is the first of a longer one. One Jump is
+/// obeyed among the last 300, to the start of flash, and bytes stand behind it.
+#[test]
+fn raw_bytes_and_their_end() {
+    let printed =
+        |seed, count: usize| said(SCRIPT, &format!("raw {seed} {count}"), "").0.chars().map(|byte| byte as u8).collect::<Vec<u8>>();
+    let long = printed(7, 9_000);
+    assert!(long == printed(7, 9_000) && long != printed(8, 9_000));
+    for count in [0, 1, 12, 299, 300, 301, 2_000, 9_000] {
+        let bytes = printed(7, count);
+        let before_end = count.saturating_sub(300);
+        assert!(bytes.len() == count && bytes[..before_end] == long[..before_end]);
+    }
+    for seed in 1..=20 {
+        let (bytes, mut bench) = (printed(seed, 3_000), Bench::at(Session::power_on()));
+        let runs_at = bytes.iter().position(|byte| !bench.uart(&[*byte]).is_empty() && bench.session.carrier == 3).unwrap();
+        assert!((2_700..2_980).contains(&runs_at) && bench.session.address == 0x0800_0000, "{seed}: {runs_at}");
+        assert_eq!(bytes[runs_at + 1..][..3], [0x7F, 0x01, 0xFE]);
     }
 }
 
@@ -63,6 +89,9 @@ fn what_is_not_reached_and_what_should_not_be() {
         (SCRIPT, "uart 1 9", "", crc_count, 0),
         (SCRIPT, "uart 1 9 covered", "", crc_count, 1),
         (SCRIPT, "uart count", "C 079\n", "not in the table: Frame at None: Did(Connected)\n", 1),
+        (SCRIPT, "raw 1 9", "", crc_count, 0),
+        (SCRIPT, "raw 1 9 covered", "", crc_count, 1),
+        (SCRIPT, "raw count", "\u{7F}!\u{DE} \0\0\0 ", "not in the table: Byte at Uart(JumpAddress): Did(Jumped(Sram, Least))\n", 1),
         (VECTORS, "generate 1 9", "", reply_length, 0),
         (VECTORS, "generate 1 9 covered", "", reply_length, 1),
     ] {
