@@ -24,7 +24,7 @@ extern "C" {
 #define OILTHICKET_SRAM_BYTES 8192
 #define OILTHICKET_USD_BYTES 64
 
-/* The least bytes of a reply buffer: for a UART byte, and for a CAN frame. */
+/* The least bytes of a reply buffer: for a UART byte, one of a slice too, and for a CAN frame. */
 #define OILTHICKET_UART_REPLY_BYTES 257
 #define OILTHICKET_CAN_REPLY_BYTES 363
 
@@ -69,6 +69,24 @@ uint8_t oilthicket_take_byte(uint8_t *session, size_t session_length,
                              uint8_t *usd, size_t usd_length,
                              uint8_t *buffer, size_t buffer_length,
                              size_t *length, uint8_t *reason, uint16_t *place);
+
+/* Takes a slice of UART bytes, one behind the other, and joins their replies at the front of the buffer.
+ * Gives the number of the call, writes how many bytes were taken to *taken and the length of the joined
+ * replies to *length; session, memories and replies are those of a call for each byte taken. It stops
+ * before a byte for which fewer than 257 bytes of the buffer are left, even if that byte would bring no
+ * reply, and behind one that makes the board run; the number is 0 then, and the rest may be given to a call
+ * with an emptied buffer. If NACKs are in the replies, the reason of the last one is written to *reason, and
+ * to *place which byte of its own command brought it, from 1; else both are 0. A buffer of any length may be
+ * lent: 2 is never given. The other causes of a UART byte are tested first, in their order, even for no
+ * bytes at all; a refused call has taken, length, reason and place 0 and leaves every other byte that was
+ * lent. A session's slice that is not 280 bytes long is an unsound session. */
+uint8_t oilthicket_take_bytes(uint8_t *session, size_t session_length,
+                              const uint8_t *bytes, size_t bytes_length,
+                              uint8_t *flash, size_t flash_length,
+                              uint8_t *sram, size_t sram_length,
+                              uint8_t *usd, size_t usd_length,
+                              uint8_t *buffer, size_t buffer_length,
+                              size_t *taken, size_t *length, uint8_t *reason, uint16_t *place);
 
 /* Takes one CAN frame, of 11 bytes, as a UART byte is taken. The reply is frames of 11 bytes, one behind
  * the other. The place of a NACK is the count of bytes that were gathered before the frame. */

@@ -1,5 +1,6 @@
 /* Connects on UART, asks for the version and sends a command that does not exist, then powers the board on
- * again and connects on CAN; prints what is sent, what the board answers, and why it refuses. */
+ * again and connects on CAN; powers it on once more and says the same on UART at once. Prints what is sent,
+ * what the board answers, and why it refuses. */
 #include <stdio.h>
 #include <string.h>
 
@@ -43,6 +44,16 @@ static int say(uint8_t byte)
     return answered(&byte, 1, number);
 }
 
+/* Sends UART bytes at once; there is room for all their replies. */
+static int say_all(const uint8_t *bytes, size_t bytes_length)
+{
+    size_t taken;
+    uint8_t number = oilthicket_take_bytes(session, sizeof session, bytes, bytes_length, flash, sizeof flash,
+                                           sram, sizeof sram, usd, sizeof usd, buffer, sizeof buffer,
+                                           &taken, &length, &reason, &place);
+    return answered(bytes, taken, number) && taken == bytes_length;
+}
+
 /* Sends one CAN frame. */
 static int send(const uint8_t frame[OILTHICKET_FRAME_BYTES])
 {
@@ -61,13 +72,15 @@ static int power_on(void)
 int main(void)
 {
     static const uint8_t connect[OILTHICKET_FRAME_BYTES] = {0x00, 0x79};
+    static const uint8_t talk[] = {0x7F, 0x01, 0xFE, 0x05, 0xFA};
 
     /* The fresh board: flash and user system data erased, protection off. */
     memset(flash, 0xFF, sizeof flash);
     memset(usd, 0xFF, sizeof usd);
     usd[0] = 0xA5;
 
-    if (power_on() && say(0x7F) && say(0x01) && say(0xFE) && say(0x05) && say(0xFA) && power_on() && send(connect))
+    if (power_on() && say(0x7F) && say(0x01) && say(0xFE) && say(0x05) && say(0xFA) && power_on() && send(connect)
+        && power_on() && say_all(talk, sizeof talk))
         return 0;
     return 1;
 }

@@ -1,7 +1,9 @@
 //! All that a call is given and leaves, so that two boards are compared byte by byte.
 
-use linked::{Lent, Taken, SESSION_BYTES};
-use second::{Outcome, Session, Store};
+use linked::{Lent, Taken, TakenBytes, SESSION_BYTES};
+use second::{Outcome, Session, SliceOutcome, Store};
+use std::env;
+use std::str::FromStr;
 
 /// What reply buffers hold before a call.
 pub const UNTOUCHED: u8 = 0xC3;
@@ -35,6 +37,23 @@ pub fn handed_back(outcome: &Outcome) -> Taken {
     }
 }
 
+/// What the linked board is to hand back where the second board's slice call has this outcome.
+pub fn slice_handed_back(outcome: &SliceOutcome) -> TakenBytes {
+    TakenBytes {
+        number: outcome.number,
+        taken: outcome.taken,
+        length: outcome.length,
+        reason: outcome.reason,
+        place: outcome.place,
+    }
+}
+
+/// The number that a variable of the environment holds, or another.
+pub fn wanted<N: FromStr>(variable: &str, other: N) -> N {
+    let held = env::var(variable).ok();
+    held.and_then(|text| text.parse().ok()).unwrap_or(other)
+}
+
 /// What is lent to a call: a session's slice, the memories and the reply buffer.
 #[derive(Clone, Debug, PartialEq, Eq)]
 pub struct Bench {
@@ -60,6 +79,12 @@ impl Bench {
     pub fn take_byte(&mut self, byte: u8) -> Taken {
         let (session, mut lent) = self.lend();
         linked::take_byte(session, byte, &mut lent)
+    }
+
+    /// Gives a slice of UART bytes to the linked board.
+    pub fn take_bytes(&mut self, bytes: &[u8]) -> TakenBytes {
+        let (session, mut lent) = self.lend();
+        linked::take_bytes(session, bytes, &mut lent)
     }
 
     /// Gives a CAN frame to the linked board.

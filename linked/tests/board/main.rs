@@ -3,5 +3,6 @@
 mod bench;
 mod random_calls;
 mod runs;
+mod slices;
 mod talk;
 mod wrong_lengths;

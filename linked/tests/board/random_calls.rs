@@ -1,13 +1,11 @@
 //! Random single calls, each on a session and buffers of its own: wrong lengths, unsound sessions,
 //! huge numbers and frames of any length among them.
 
-use crate::bench::{handed_back, session_bytes, Bench};
+use crate::bench::{handed_back, session_bytes, wanted, Bench};
 use linked::Taken;
 use second::vector::{Vector, BYTE};
 use second::vectors::{random, reached};
 use second::Outcome;
-use std::env;
-use std::str::FromStr;
 
 /// The seed of the vectors, and how many calls are made, where the environment says no other.
 const SEED: u64 = 1;
@@ -18,12 +16,6 @@ const ENOUGH: usize = 100;
 
 /// How many of the vectors are looked at for what they reach.
 const LOOKED_AT: usize = 5_000;
-
-/// The number that a variable of the environment holds, or another.
-fn wanted<N: FromStr>(variable: &str, other: N) -> N {
-    let held = env::var(variable).ok();
-    held.and_then(|text| text.parse().ok()).unwrap_or(other)
-}
 
 /// What a vector lends.
 fn lent(vector: &Vector) -> Bench {

@@ -51,6 +51,34 @@ fn on_uart() {
     assert_eq!(store.flash[..2], [0xA5, 0xFF]);
 }
 
+/// The same talk as one slice: the replies stand joined in the buffer, and the last NACK has its reason.
+#[test]
+fn on_uart_at_once() {
+    let mut store = Store::fresh();
+    let mut session = Session::power_on();
+    let mut buffer = [0; 1_000];
+    let mut lent = Lent {
+        flash: &mut store.flash,
+        sram: &mut store.sram,
+        usd: &mut store.usd,
+        buffer: &mut buffer,
+    };
+    let talk = [
+        &[0x7F, 0x01, 0xFE][..],
+        &[0x31, 0xCE, 0x08, 0, 0, 0, 0x08, 0x00, 0xA5, 0xA5],
+        &[0x05, 0xFA],
+        &[0x11, 0xEE, 0x08, 0, 0, 0, 0x08, 0x00, 0xFF],
+    ]
+    .concat();
+    let taken = session.take_bytes(&talk, &mut lent);
+    let said = [
+        0x79, 0x79, 0x20, 0x01, 0x07, 0x79, 0x79, 0x79, 0x79, 0x1F, 0x79, 0x79, 0x79, 0xA5,
+    ];
+    assert_eq!((taken.number, taken.taken), (ACCEPTED, talk.len()));
+    assert_eq!((taken.reason, taken.place), (2, 2));
+    assert_eq!(buffer[..taken.length], said);
+}
+
 /// Connect: the answer is a frame of ID 0x079 with one data byte, ACK.
 #[test]
 fn on_can() {

@@ -1,7 +1,7 @@
 //! A session's slice of a wrong length holds no session: the call is refused, and nothing changes.
 
-use crate::bench::Bench;
-use linked::{Taken, SESSION_BYTES};
+use crate::bench::{Bench, ROOM};
+use linked::{Taken, TakenBytes, SESSION_BYTES};
 
 /// The causes, in the order in which they are tested.
 const WRONG_MEMORY: u8 = 1;
@@ -63,6 +63,37 @@ fn earlier_causes_come_first() {
         bench.store.usd.push(0);
         refused(&bench, WRONG_MEMORY, |bench| bench.take_byte(0x7F));
         refused(&bench, WRONG_MEMORY, |bench| bench.take_frame(&[]));
+    }
+}
+
+/// A slice of UART bytes, even of none, is refused for cause 4 too; only cause 1 comes first, for no buffer is too short.
+#[test]
+fn slices_on_a_wrong_length() {
+    let nothing = |number| TakenBytes {
+        number,
+        taken: 0,
+        length: 0,
+        reason: 0,
+        place: 0,
+    };
+    for (mut bench, bytes) in
+        benches().flat_map(|bench| [(bench.clone(), &[][..]), (bench, &FRAME)])
+    {
+        for (room, usd, cause) in [
+            (ROOM, 64, UNSOUND_SESSION),
+            (0, 64, UNSOUND_SESSION),
+            (0, 63, WRONG_MEMORY),
+        ] {
+            bench.buffer.truncate(room);
+            bench.store.usd.truncate(usd);
+            let before = bench.clone();
+            assert_eq!(bench.take_bytes(bytes), nothing(cause));
+            assert!(
+                bench == before,
+                "{} bytes: a byte changed",
+                bench.session.len()
+            );
+        }
     }
 }
 
