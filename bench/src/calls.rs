@@ -43,7 +43,7 @@ fn checksums(sectors: usize) -> Vec<Input> {
 }
 
 /// A board whose flash holds 00 01 .. FF over and over.
-fn counting() -> Store {
+pub fn counting() -> Store {
     let mut store = Store::fresh();
     store.flash.iter_mut().enumerate().for_each(|(place, byte)| *byte = place as u8);
     store

@@ -12,7 +12,7 @@ use crate::workload::Workload;
 const RUNS: usize = 15;
 
 /// The bytes of a megabyte.
-const MEGABYTE: usize = 1_000_000;
+pub const MEGABYTE: usize = 1_000_000;
 
 /// Writes an input that is this much work.
 fn write(workload: Workload, work: usize, path: &Path) -> io::Result<()> {
@@ -49,7 +49,7 @@ fn run(program: &str, input: &Path, output: &Path) -> io::Result<f64> {
 }
 
 /// Runs two programs by turns on one input, requires that they print the same, and tells the shortest run of each.
-fn both(programs: &[&str; 2], input: &Path, folder: &Path) -> io::Result<[f64; 2]> {
+pub fn both(programs: &[&str; 2], input: &Path, folder: &Path) -> io::Result<[f64; 2]> {
     let outputs = [folder.join("first"), folder.join("second")];
     let mut shortest = [f64::INFINITY; 2];
     for _ in 0..RUNS {

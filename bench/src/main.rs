@@ -1,20 +1,24 @@
 //! How fast the proved board is beside the second program.
 //!
 //!     bench desks FIRST SECOND FOLDER MEGABYTES...
+//!     bench ports FIRST SECOND FOLDER MEGABYTES...
 //!     bench calls
 //!     bench images FIRST SECOND FOLDER [SREC_CAT]
 
 mod calls;
 mod desks;
 mod images;
+mod ports;
+mod slices;
 mod workload;
 
 use std::env;
+use std::io;
 use std::path::Path;
 use std::process::ExitCode;
 
 /// What the program is called with.
-const USAGE: &str = "bench desks FIRST SECOND FOLDER MEGABYTES... | bench calls | bench images FIRST SECOND FOLDER [SREC_CAT]";
+const USAGE: &str = "bench desks|ports FIRST SECOND FOLDER MEGABYTES... | bench calls | bench images FIRST SECOND FOLDER [SREC_CAT]";
 
 /// The words of a program `image` behind its own, and those of srec_cat: it begins at flash, so that its output has 32,768 bytes.
 const OF_IMAGE: [&str; 3] = ["FILE", "NEW", "0"];
@@ -26,12 +30,15 @@ fn fail(why: &str) -> ExitCode {
     ExitCode::FAILURE
 }
 
-/// Measures two programs `desk`.
-fn desks(first: &str, second: &str, folder: &str, sizes: &[String]) -> ExitCode {
+/// A table of two programs on inputs of some sizes, in megabytes.
+type Table = fn(&[&str; 2], &Path, &[usize]) -> io::Result<()>;
+
+/// Measures two programs `desk`, or two programs `port`.
+fn programs(table: Table, first: &str, second: &str, folder: &str, sizes: &[String]) -> ExitCode {
     let Ok(sizes) = sizes.iter().map(|word| word.parse()).collect::<Result<Vec<usize>, _>>() else {
         return fail("a size is a number of megabytes");
     };
-    match desks::table(&[first, second], Path::new(folder), &sizes) {
+    match table(&[first, second], Path::new(folder), &sizes) {
         Ok(()) => ExitCode::SUCCESS,
         Err(error) => fail(&error.to_string()),
     }
@@ -60,9 +67,12 @@ fn images(first: &str, second: &str, folder: &str, srec_cat: Option<&str>) -> Ex
 fn main() -> ExitCode {
     let words: Vec<String> = env::args().skip(1).collect();
     match words.iter().map(String::as_str).collect::<Vec<_>>()[..] {
-        ["desks", first, second, folder, ..] => desks(first, second, folder, &words[4..]),
+        ["desks", first, second, folder, ..] => programs(desks::table, first, second, folder, &words[4..]),
+        ["ports", first, second, folder, ..] => programs(ports::table, first, second, folder, &words[4..]),
         ["calls"] => {
             calls::table();
+            println!();
+            slices::table();
             println!();
             calls::checksum_table();
             ExitCode::SUCCESS

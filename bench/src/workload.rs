@@ -102,11 +102,60 @@ fn checked(mut bytes: Vec<u8>) -> Vec<u8> {
 
 /// A write of a block and a read of it, over UART.
 fn uart(round: usize) -> Vec<Said> {
-    let at = checked(address(round).to_vec());
-    let counted = checked([vec![0xFF], data(round)].concat());
-    let write = [vec![0x31, 0xCE], at.clone(), counted].concat();
-    let read = [vec![0x11, 0xEE], at, vec![0xFF, 0x00]].concat();
-    vec![Said::Bytes(write), Said::Bytes(read)]
+    let commands = [Commands::Writes, Commands::Reads];
+    commands.map(|commands| Said::Bytes(commands.command(round))).into()
+}
+
+/// UART commands of one kind, a block of 256 bytes each.
+#[derive(Clone, Copy)]
+pub enum Commands {
+    Writes,
+    Reads,
+}
+
+impl Commands {
+    /// Both kinds.
+    pub const ALL: [Commands; 2] = [Commands::Writes, Commands::Reads];
+
+    /// What a row of a table calls them.
+    pub fn name(self) -> &'static str {
+        match self {
+            Commands::Writes => "writes of 256 bytes",
+            Commands::Reads => "reads of 256 bytes",
+        }
+    }
+
+    /// The command of a round.
+    fn command(self, round: usize) -> Vec<u8> {
+        let at = checked(address(round).to_vec());
+        match self {
+            Commands::Writes => [vec![0x31, 0xCE], at, checked([vec![0xFF], data(round)].concat())].concat(),
+            Commands::Reads => [vec![0x11, 0xEE], at, vec![0xFF, 0x00]].concat(),
+        }
+    }
+
+    /// The bytes that a board answers to a command that it obeys: three ACKs, and what is read.
+    fn answered(self) -> usize {
+        match self {
+            Commands::Writes => 3,
+            Commands::Reads => 3 + BLOCK,
+        }
+    }
+
+    /// A talk that connects and then sends commands, until so many bytes have gone there and back, and how many they are.
+    pub fn talk(self, bytes: usize) -> (Vec<u8>, usize) {
+        let mut talk = vec![0x7F];
+        let mut answered = 1;
+        for round in 0.. {
+            if bytes <= talk.len() + answered {
+                break;
+            }
+            talk.extend(self.command(round));
+            answered += self.answered();
+        }
+        let both = talk.len() + answered;
+        (talk, both)
+    }
 }
 
 /// A write of a block and a read of it, over CAN.
