@@ -140,7 +140,21 @@ fn written_only_where_memories_change() {
     assert!(!path.exists() && output.len() == 1 + 17 + 3 + 3 + 2 + 2);
     let kept = Kept::open(&path).unwrap();
     fs::remove_dir_all(&folder).unwrap();
-    let (mut input, mut output) = (hex(WRITE), Vec::new());
-    let ended = serve(&mut Port::with(Store::fresh(), false), Some(kept), &mut Parts(vec![Ok(input.split_off(0))]), &mut output);
+    let mut output = Vec::new();
+    let ended = serve(&mut Port::with(Store::fresh(), false), Some(kept), &mut Parts(vec![Ok(hex(WRITE))]), &mut output);
     assert!(matches!(ended, Err(Broken::File(error)) if error.kind() == io::ErrorKind::NotFound) && output.is_empty());
+}
+
+/// Where the part cannot take the file's place, here since a folder has its name by then, the part is removed and nothing is answered.
+#[test]
+fn no_part_is_left_of_a_failure() {
+    let folder = folder("part");
+    let path = folder.join("board");
+    let kept = Kept::open(&path).unwrap();
+    fs::remove_file(&path).unwrap();
+    fs::create_dir(&path).unwrap();
+    let mut output = Vec::new();
+    let ended = serve(&mut Port::with(Store::fresh(), false), Some(kept), &mut Parts(vec![Ok(hex(WRITE))]), &mut output);
+    assert!(matches!(ended, Err(Broken::File(_))) && output.is_empty());
+    assert_eq!(names(&folder), ["board"]);
 }
