@@ -307,3 +307,8 @@ module _ (g : GivenBytes) (c : Cause) (ec : c ≡ sliceCause (g .state)) where
       → TookBytes g 0 (left r (g .state .memories) (g .buffer))
   unfolding sliceOutcome callBytes
   slice-refused h e = rw (← ec, h) (record { count = refl; leaves = refused-leaves (g .state) (g .buffer) e })
+
+-- a slice that is not refused finds a sound session
+pub slice-sound : (p : State) → accepts (sliceCause p) ≡ true → T (sound (p .session))
+unfolding sliceCause
+slice-sound p a = accepted-clear (proper (p .memories)) true true (p .session) a .firm

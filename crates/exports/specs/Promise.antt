@@ -6,7 +6,9 @@ use Rattle.words.specs.Choice.{if_then_else_}
 use Rattle.memories.specs.Memories.{Memories}
 use Rattle.boot.specs.Session.{fresh}
 use Rattle.boot.specs.Causes.{causeNo, accepts}
-use Rattle.boot.specs.Promise.{Given, left, outcome, Took}
+use Rattle.boot.specs.Calls.{Outcome}
+use Rattle.boot.specs.Promise.{left, Leaves}
+use Rattle.boot.specs.Slices.{GivenBytes, sliceOutcome}
 use Rattle.boot.specs.declared.Cause.{Cause}
 use Rattle.boot.specs.declared.Cause.the-variants.{Accepted, UnsoundSession}
 use Rattle.boot.specs.declared.Session.{Session}
@@ -30,8 +32,13 @@ pub record PowersOn (lent : List ℕ) (n : ℕ) (after : List ℕ) : Type 0 wher
 abbrev pub result : ℕ → ℕ → ℕ → ℕ → Session → Taken
 result number length reason place s = record { number = number; length = length; reason = reason; place = place; session = s }
 
--- a taking call leaves what the board's own call does
-pub record Takes (g : Given) (lent : List ℕ) (number length reason place : ℕ) (after : List ℕ) (m : Memories) (buffer : List ℕ) : Type 0 where
-  pub took : Took g (left (result number length reason place (outcome g .state .session)) m buffer)
-  pub session : after ≡ handedOn (outcome g .cause) (outcome g .state .session) lent
-  pub held : sessionIn after ≡ outcome g .state .session
+-- a taking call leaves what an outcome of the board's own call says, given the reply buffer and the session's slice as they were lent
+pub record Takes (o : Outcome) (room lent : List ℕ) (number length reason place : ℕ) (after : List ℕ) (m : Memories) (buffer : List ℕ) : Type 0 where
+  pub leaves : Leaves o room (left (result number length reason place (o .state .session)) m buffer)
+  pub session : after ≡ handedOn (o .cause) (o .state .session) lent
+  pub held : sessionIn after ≡ o .state .session
+
+-- the call of a slice of bytes tells besides how many of them were taken
+pub record TakesBytes (g : GivenBytes) (lent : List ℕ) (number taken length reason place : ℕ) (after : List ℕ) (m : Memories) (buffer : List ℕ) : Type 0 where
+  pub count : taken ≡ sliceOutcome g .count
+  pub takes : Takes (sliceOutcome g .outcome) (g .buffer) lent number length reason place after m buffer

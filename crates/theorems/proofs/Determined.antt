@@ -2,12 +2,14 @@
 use mathlib.Core.Path.{_≡_, sym, _∙_}
 use mathlib.Core.List.{List}
 use Prim.Native.Nat.{ℕ}
-use Rattle.boot.specs.Promise.{Given, Left, givenByte, givenFrame, Took}
+use Rattle.boot.specs.Calls.{Outcome}
+use Rattle.boot.specs.Promise.{Left, givenByte, givenFrame, outcome, Leaves}
+use Rattle.boot.specs.Slices.{givenBytes, sliceOutcome}
 use Rattle.session_bytes.specs.Sessions.{sessionIn}
 use Rattle.theorems.specs.Determined.{Powered, Handed, Powers, Hands, Determined}
 
-took-once : (g : Given) (l k : Left) → Took g l → Took g k → l ≡ k
-took-once g l k p q = λ i. record {
+left-once : (o : Outcome) (room : List ℕ) (l k : Left) → Leaves o room l → Leaves o room k → l ≡ k
+left-once o room l k p q = λ i. record {
   result = record {
     number = (p .number ∙ sym (q .number)) i;
     length = (p .count ∙ sym (q .count)) i;
@@ -22,9 +24,9 @@ took-once g l k p q = λ i. record {
 }
 
 -- the board's own call fixes all of an exported one but the session's slice
-hands-once : (g : Given) (lent : List ℕ) (l k : Handed) → Hands g lent l → Hands g lent k → l ≡ k
-hands-once g lent l k p q =
-    let e = took-once g _ _ (p .took) (q .took) in
+handed-once : (o : Outcome) (room lent : List ℕ) (l k : Handed) → Hands o room lent l → Hands o room lent k → l ≡ k
+handed-once o room lent l k p q =
+    let e = left-once o room _ _ (p .leaves) (q .leaves) in
     λ i. record {
       number = e i .result .number;
       length = e i .result .length;
@@ -44,9 +46,15 @@ powers-once lent l k p q = λ i. record {
 pub determined : Determined
 determined = record {
   powerOn = λ s t p q. p .session ∙ sym (q .session);
-  takeByte = λ s b m buffer l k p q. took-once (givenByte s b m buffer) l k p q;
-  takeFrame = λ s frame m buffer l k p q. took-once (givenFrame s frame m buffer) l k p q;
+  takeByte = λ s b m buffer l k p q. left-once (outcome (givenByte s b m buffer)) buffer l k p q;
+  takeFrame = λ s frame m buffer l k p q. left-once (outcome (givenFrame s frame m buffer)) buffer l k p q;
+  takeBytes = λ s bs m buffer i j l k p q.
+      (p .count ∙ sym (q .count), left-once (sliceOutcome (givenBytes s bs m buffer) .outcome) buffer l k (p .leaves) (q .leaves));
   exportedPowerOn = powers-once;
-  exportedTakeByte = λ lent b m buffer l k p q. hands-once (givenByte (sessionIn lent) b m buffer) lent l k p q;
-  exportedTakeFrame = λ lent frame m buffer l k p q. hands-once (givenFrame (sessionIn lent) frame m buffer) lent l k p q;
+  exportedTakeByte = λ lent b m buffer l k p q. handed-once (outcome (givenByte (sessionIn lent) b m buffer)) buffer lent l k p q;
+  exportedTakeFrame = λ lent frame m buffer l k p q. handed-once (outcome (givenFrame (sessionIn lent) frame m buffer)) buffer lent l k p q;
+  exportedTakeBytes = λ lent bs m buffer i j l k p q. (
+    p .count ∙ sym (q .count),
+    handed-once (sliceOutcome (givenBytes (sessionIn lent) bs m buffer) .outcome) buffer lent l k (p .takes) (q .takes),
+  );
 }
