@@ -1,7 +1,6 @@
 // The program image: makes an image of an S-record file. Its arguments are FILE, NEW, SHIFT and, where there is one, OLD.
 use image_files::Shift;
 use image_files::arguments;
-use image_files::files;
 use image_files::making;
 use libc::STDERR_FILENO;
 

@@ -1,15 +1,14 @@
 -- Decimal digits one after another, and how large the number becomes.
-use mathlib.Core.Path.{_≡_, refl, subst}
+use mathlib.Core.Path.{_≡_, refl}
 use mathlib.Core.Bool.{Bool, true, false, cond, _&&_}
 use mathlib.Core.List.{List, [], _∷_}
 use Prim.Native.Nat.{ℕ, zero, suc, _+_, _*_, _-_, _≤_, _<_}
 use native.Mathlib.Numerals.{add-one}
 use native.Mathlib.Omega.{arith}
 use lib.Dec.{T, leb, ltb}
-use lib.IntN.{ℤ, pos, negsuc, _-ℤ_, natAbs}
-use lib.Signed.{ltZ, nonNeg}
-use mir.Syntax.{w16, w32, w64}
-use mir.Val.{Fits, SFits, ofZ, toZ}
+use lib.IntN.{pos, negsuc, _-ℤ_}
+use mir.Syntax.{w16, w64}
+use mir.Val.{SFits, ofZ, toZ}
 use mir.ValLaws.{toZ-ofZ, toZ-pos}
 use lib.ListN.{length, getD, drop}
 use lib.Seq.{drop-cons, drop-length}
@@ -85,8 +84,3 @@ pub no-shift : (l : List ℕ) → length l < 1 → NoShift ≡ shiftIn l
 unfolding shiftIn numberIn
 no-shift [] h = refl
 no-shift (c ∷ cs) h = absurd (omega arith)
-
--- a number that is not below 0 keeps its value without a sign
-pub unsigned-fits : (z : ℤ) → ltZ z (pos 0) ≡ false → SFits w32 z → T (nonNeg z) × Fits w64 (natAbs z)
-unsigned-fits (pos a) h f = (tt, record { fits = omega (arith, f .sfits) })
-unsigned-fits (negsuc a) h f = absurd (subst T h tt)

@@ -1,6 +1,5 @@
-// What the programs that make images of S-record files share: their arguments' numbers and their files.
+// What the programs that make images of S-record files share: their arguments' numbers, and how an image is made.
 pub mod arguments;
-pub mod files;
 pub mod making;
 
 // A number that an argument writes, or none.

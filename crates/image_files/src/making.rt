@@ -4,11 +4,13 @@ ghost use Prim.Native.Nat.{_≤_};
 ghost use lib.ListN.{length};
 ghost use Rattle.io.specs.Counts.{Counts};
 ghost use Rattle.board.specs.Board.{flash};
-use crate::files;
-use crate::files::Got;
 use board::Board;
+use files::Got;
 use libc::STDERR_FILENO;
 use libc::STDOUT_FILENO;
+
+// How many characters an S-record file has at most.
+pub const TEXT: usize = 2097152;
 
 // The byte that erased flash holds.
 const ERASED: u8 = 0xFF;
@@ -21,10 +23,10 @@ pub fn erased() -> [u8; Board::FLASH_BYTES + 1]
 }
 
 // Room for a text, and a character more.
-pub fn text_room() -> [u8; files::TEXT + 1]
+pub fn text_room() -> [u8; TEXT + 1]
     ensures { λ r. ⌜ 2097153 ≡ length r ⌝ }
 {
-    [0; files::TEXT + 1]
+    [0; TEXT + 1]
 }
 
 // Room for what is said.
@@ -32,6 +34,12 @@ pub fn said_room() -> [u8; files::NAME + image_says::ROOM]
     ensures { λ r. ⌜ 4256 ≡ length r ⌝ }
 {
     [0; files::NAME + image_says::ROOM]
+}
+
+// Says that an S-record file is too long.
+pub fn too_long(name: &[u8]) {
+    io::write_all(STDERR_FILENO, name);
+    io::write_all(STDERR_FILENO, b": longer than 2097152 characters\n");
 }
 
 // The image that is begun with: erased flash, which the room holds, or the file of a name.
@@ -79,8 +87,8 @@ pub fn make(file: &[u8], new: &[u8], shift: i16, old: &[u8]) {
         return;
     }
     let n = got.length;
-    if files::TEXT < n {
-        files::too_long(file);
+    if TEXT < n {
+        too_long(file);
         return;
     }
     let bytes = begun.length;

@@ -5,7 +5,6 @@ ghost use lib.ListN.{length};
 use image_files::Number;
 use image_files::Shift;
 use image_files::arguments;
-use image_files::files;
 use image_files::making;
 use libc::STDOUT_FILENO;
 
@@ -116,8 +115,8 @@ fn load_three(i: usize, image: &mut [u8])
         return;
     }
     let n = got.length;
-    if files::TEXT < n {
-        files::too_long(&name[..k]);
+    if making::TEXT < n {
+        making::too_long(&name[..k]);
         return;
     }
     load(

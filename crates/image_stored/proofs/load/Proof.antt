@@ -1,7 +1,7 @@
 -- What is lent of the image is a part of it, and what is said fits its room.
 use borrow.Author.Needs.{needs}
 use native.Mathlib.Omega.{arith}
-use Rattle.image_files.proofs.Prefixes.{first-bytes}
+use Rattle.files.proofs.Prefixes.{first-bytes}
 use Rattle.image_stored.proofs.load.Statement.{statement}
 use Rattle.image_stored.proofs.load.Tie as tie
 

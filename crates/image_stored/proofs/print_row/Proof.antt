@@ -1,7 +1,7 @@
 -- A row of sixteen bytes fits its room.
 use borrow.Author.Needs.{needs}
 use native.Mathlib.Omega.{arith}
-use Rattle.image_files.proofs.Prefixes.{first-bytes}
+use Rattle.files.proofs.Prefixes.{first-bytes}
 use Rattle.image_stored.proofs.print_row.Statement.{statement}
 use Rattle.image_stored.proofs.print_row.Tie as tie
 

@@ -1,6 +1,6 @@
 -- An erased image is a part of the room.
 use borrow.Author.Needs.{needs}
-use Rattle.image_files.proofs.Prefixes.{first-bytes}
+use Rattle.files.proofs.Prefixes.{first-bytes}
 use Rattle.image_files.proofs.making.begin.Statement.{statement}
 use Rattle.image_files.proofs.making.begin.Tie as tie
 

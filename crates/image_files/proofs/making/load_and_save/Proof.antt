@@ -1,7 +1,7 @@
 -- What is said of a name that fits its room fits it too.
 use borrow.Author.Needs.{needs}
 use native.Mathlib.Omega.{arith}
-use Rattle.image_files.proofs.Prefixes.{first-bytes}
+use Rattle.files.proofs.Prefixes.{first-bytes}
 use Rattle.image_files.proofs.making.load_and_save.Statement.{statement}
 use Rattle.image_files.proofs.making.load_and_save.Tie as tie
 

@@ -1,5 +1,5 @@
 -- So many zeros have that length.
-use Rattle.image_files.proofs.Prefixes.{so-many}
+use Rattle.files.proofs.Prefixes.{so-many}
 use Rattle.image_files.proofs.making.text_room.Statement.{statement}
 use Rattle.image_files.proofs.making.text_room.Tie as tie
 

@@ -5,9 +5,9 @@ use borrow.Rule.Slice.PartMut.{putMid}
 use mathlib.Core.Path.{_≡_, refl}
 use Prim.Native.Nat.{_≤_, _-_}
 use lib.ListN.{length}
-use Rattle.image_files.proofs.Prefixes.{first-bytes}
-use Rattle.image_files.proofs.files.read_all.Statement.{statement}
-use Rattle.image_files.proofs.files.read_all.Tie as tie
+use Rattle.files.proofs.Prefixes.{first-bytes}
+use Rattle.files.proofs.read_all.Statement.{statement}
+use Rattle.files.proofs.read_all.Tie as tie
 
 abbrev Inv-loop : tie.InvT-loop
 Inv-loop file room₀ n done₀ room done = (done ≤ n) × (length room ≡ length room₀)

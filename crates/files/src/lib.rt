@@ -2,10 +2,6 @@
 ghost use Prim.Native.Nat.{_+_, _≤_};
 ghost use lib.ListN.{length};
 ghost use Rattle.io.specs.Counts.{Counts};
-use libc::STDERR_FILENO;
-
-// How many characters an S-record file has at most.
-pub const TEXT: usize = 2097152;
 
 // How many characters a name has at most, and what is added to it while a file is written.
 pub const NAME: usize = 4096;
@@ -146,10 +142,4 @@ pub fn save(name: &[u8], bytes: &[u8]) -> bool {
         return false;
     }
     give_name(&space[..n], name)
-}
-
-// Says that an S-record file is too long.
-pub fn too_long(name: &[u8]) {
-    io::write_all(STDERR_FILENO, name);
-    io::write_all(STDERR_FILENO, b": longer than 2097152 characters\n");
 }

@@ -1,9 +1,9 @@
 -- Each part is added behind the one before, and there is room for all.
 use borrow.Author.Needs.{needs}
 use native.Mathlib.Omega.{arith}
-use Rattle.image_files.proofs.Prefixes.{first-bytes}
-use Rattle.image_files.proofs.files.part_name.Statement.{statement}
-use Rattle.image_files.proofs.files.part_name.Tie as tie
+use Rattle.files.proofs.Prefixes.{first-bytes}
+use Rattle.files.proofs.part_name.Statement.{statement}
+use Rattle.files.proofs.part_name.Tie as tie
 
 returns : tie.Need-returns
 returns c =

@@ -2,9 +2,9 @@
 use borrow.Author.Needs.{needs}
 use mir.Syntax.{w32}
 use mir.ValLaws.{toZ-ofZ}
-use Rattle.image_files.proofs.Decimals.{unsigned-fits}
-use Rattle.image_files.proofs.files.process.Statement.{statement}
-use Rattle.image_files.proofs.files.process.Tie as tie
+use Rattle.files.proofs.Signs.{unsigned-fits}
+use Rattle.files.proofs.process.Statement.{statement}
+use Rattle.files.proofs.process.Tie as tie
 
 cast-result : tie.Need-cast-result
 cast-result c =
