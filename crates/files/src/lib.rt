@@ -75,6 +75,16 @@ pub fn read(name: &[u8], room: &mut [u8]) -> Got
     got
 }
 
+// Whether there is no file of a name.
+pub fn is_missing(name: &[u8]) -> bool {
+    let file = os::open_read(name);
+    if file < 0 {
+        return os::errno() == libc::ENOENT;
+    }
+    libc::close(file);
+    false
+}
+
 // The number of this process.
 fn process() -> u64 {
     let id = libc::getpid();

@@ -1,0 +1,64 @@
+-- Without a name nothing is done; under one, the memories that the board begins with are taken down.
+use borrow.Author.Needs.{needs}
+use native.Mathlib.Omega.{arith}
+use mathlib.Core.Path.{refl, sym, subst, _∙_}
+use lib.Dec.{T}
+use Rattle.memories.specs.Memories.{memories}
+use Rattle.keeping.proofs.Rooms.{is-named, down-kept, none-kept}
+use Rattle.keeping.proofs.begin.Statement.{statement}
+use Rattle.keeping.proofs.begin.Tie as tie
+
+returns : tie.Need-returns
+returns c =
+    let start = c .before .before .before .before .before .before in (
+      (λ _. refl),
+      (
+        (λ _. refl),
+        (λ _. none-kept (start .args .name .now) (memories (start .args .flash .now) (start .args .sram .now)
+            (start .args .usd .now)) (start .args .kept .now) (c .if1 .taken)),
+      ),
+    )
+
+returns-2 : tie.Need-returns-2
+returns-2 c =
+    let after-make = c .before .before in
+    let start = after-make .before .before .before .before .before .before .before .before .before .before .before .before .before in (
+      (λ _. refl),
+      (
+        (λ _. refl),
+        (λ _. down-kept (start .args .name .now) (memories (start .args .flash .now) (start .args .sram .now)
+            (start .args .usd .now)) (start .args .kept .now) _ (omega (arith, after-make .make .kept)) (after-make .make .ensures)),
+      ),
+    )
+
+returns-3 : tie.Need-returns-3
+returns-3 c =
+    let after-go-on = c .before .before .before .before .before .before .before .before in
+    let else1 = after-go-on .before .before .before .before .before .before .before in
+    let start = else1 .before .before .before .before .before .before in (
+      (λ e. absurd (subst T (sym (is-named (start .args .name .now) (else1 .if1 .left)) ∙ e) tt)),
+      (
+        after-go-on .go-on .ensures .1,
+        (λ t. down-kept (start .args .name .now) _ (start .args .kept .now) _
+            (omega (arith, after-go-on .go-on .kept)) (after-go-on .go-on .ensures .0 t)),
+      ),
+    )
+
+pub begin-spec : {M : Type 1} → statement M
+begin-spec =
+    tie.close
+    (tie.spec
+    returns
+    (λ c κs. search needs)
+    (λ c κs. search needs)
+    (λ c κs. search needs)
+    (λ c. search needs)
+    (λ c. search needs)
+    (λ c. search needs)
+    (λ c. search needs)
+    returns-2
+    (λ c. search needs)
+    (λ c. search needs)
+    (λ c. search needs)
+    (λ c. search needs)
+    returns-3)

@@ -1,0 +1,104 @@
+// Keeps a board's memories in a file, so that a board goes on where it ended. What a file holds no contract says.
+pub mod arguments;
+pub mod held;
+pub mod room;
+
+ghost use mathlib.Core.Path.{_≡_};
+ghost use mathlib.Core.Bool.{true, false};
+ghost use lib.ListN.{length};
+ghost use Rattle.words.specs.Choice.{if_then_else_};
+ghost use Rattle.memories.specs.Lent.{were, are};
+ghost use Rattle.keeping.specs.Kept.{named, takenDown, Kept};
+use libc::STDERR_FILENO;
+use room::MEMORIES_BYTES;
+use room::bring_back;
+use room::take_down;
+
+// Room for the bytes of a file, and a byte more, which tells that it is longer.
+fn file_room() -> [u8; MEMORIES_BYTES + 1]
+    ensures { λ r. ⌜ 41025 ≡ length r ⌝ }
+{
+    [0; MEMORIES_BYTES + 1]
+}
+
+// Says that a file has another length than a board's memories.
+fn say_length(name: &[u8], length: usize) {
+    io::write_all(STDERR_FILENO, name);
+    io::write_all(STDERR_FILENO, b": it has ");
+    if MEMORIES_BYTES < length {
+        io::write_all(STDERR_FILENO, b"more than ");
+        io::print_decimal(STDERR_FILENO, MEMORIES_BYTES as u64);
+    } else {
+        io::print_decimal(STDERR_FILENO, length as u64);
+    }
+    io::write_all(STDERR_FILENO, b" bytes, and a board's memories are 41024\n");
+}
+
+// Makes the file of a name of the memories.
+fn make(name: &[u8], flash: &[u8], sram: &[u8], usd: &[u8], kept: &mut [u8]) -> bool
+    ensures { λ _. ⌜ now (kept .exit) ≡ takenDown (were flash sram usd) (now (kept .entry)) ⌝ }
+{
+    take_down(flash, sram, usd, kept);
+    files::save(name, kept)
+}
+
+// Brings the memories back that the file of a name holds, or says why it cannot.
+fn go_on(name: &[u8], flash: &mut [u8], sram: &mut [u8], usd: &mut [u8], kept: &mut [u8]) -> bool
+    ensures kept { λ r. ⌜ (r ≡ true → now (kept .exit) ≡ takenDown (are flash sram usd) (now (kept .entry))) ⌝ }
+    ensures refused { λ r. ⌜ (r ≡ false → are flash sram usd ≡ were flash sram usd) ⌝ }
+{
+    let mut bytes = file_room();
+    let got = files::read(name, &mut bytes);
+    if got.failed {
+        return false;
+    }
+    let n = got.length;
+    if n != MEMORIES_BYTES {
+        say_length(name, n);
+        return false;
+    }
+    bring_back(&bytes[..n], flash, sram, usd);
+    take_down(flash, sram, usd, kept);
+    true
+}
+
+// Begins with a board: without a name with the memories as they are lent; else with those that the file of that name holds, which is made of
+// the lent ones where it is missing. It tells whether the board may begin, and says why not.
+pub fn begin(
+    name: &[u8],
+    flash: &mut [u8],
+    sram: &mut [u8],
+    usd: &mut [u8],
+    kept: &mut [u8],
+) -> bool
+    ensures unnamed { λ r. ⌜ (named (now (name .entry)) ≡ false → are flash sram usd ≡ were flash sram usd) ⌝ }
+    ensures refused { λ r. ⌜ (r ≡ false → are flash sram usd ≡ were flash sram usd) ⌝ }
+    ensures kept { λ r. ⌜ (r ≡ true → Kept (now (name .entry)) (are flash sram usd) (now (kept .exit))) ⌝ }
+{
+    if name.len() == 0 {
+        return true;
+    }
+    let missing = files::is_missing(name);
+    if missing {
+        make(name, flash, sram, usd, kept)
+    } else {
+        go_on(name, flash, sram, usd, kept)
+    }
+}
+
+// Keeps the memories in the file of a name, where they are not what was kept last, or says why it cannot; without a name it does nothing.
+pub fn keep(name: &[u8], flash: &[u8], sram: &[u8], usd: &[u8], kept: &mut [u8]) -> bool
+    ensures kept { λ _. ⌜ now (kept .exit)
+        ≡ (if named (now (name .entry)) then takenDown (were flash sram usd) (now (kept .entry)) else now (kept .entry)) ⌝ }
+    ensures same { λ r. ⌜ (now (kept .exit) ≡ now (kept .entry) → r ≡ true) ⌝ }
+{
+    if name.len() == 0 {
+        return true;
+    }
+    let changed = take_down(flash, sram, usd, kept);
+    if changed {
+        files::save(name, kept)
+    } else {
+        true
+    }
+}
