@@ -1,3 +1,1 @@
-pub mod Zeros
 pub mod Hearing
-pub mod Pieces

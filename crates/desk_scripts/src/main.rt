@@ -9,7 +9,7 @@ fn run_script(why: bool, name: &[u8]) {
         os::fail(name);
         return;
     }
-    desk_loop::run(why, file, STDOUT_FILENO);
+    desk_loop::run(why, b"", file, STDOUT_FILENO);
     libc::close(file);
 }
 

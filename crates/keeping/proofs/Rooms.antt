@@ -8,11 +8,12 @@ use lib.Dec.{T, eqb, eqb→eq}
 use lib.ListN.{length, take, drop, length-append}
 use lib.Seq.{take-at, drop-at, take-all, drop-append-le, take-append-le, take-add}
 use borrow.Author.Tests.{eq-eqb, lt-ltb, not-true, not-false}
+use Rattle.words.specs.Choice.{if_then_else_}
 use Rattle.words.specs.Lists.{part}
 use Rattle.words.specs.Over.{put, newer}
 use Rattle.words.proofs.Over.{put-all, over-then}
 use Rattle.words.proofs.Slices.{length-part}
-use Rattle.words.proofs.Tests.{both-left, both-right, holds-true}
+use Rattle.words.proofs.Tests.{both-left, both-right, holds-true, chosen}
 use Rattle.board.specs.Board as B
 use Rattle.memories.specs.Memories.{Memories, memories, proper}
 use Rattle.keeping.specs.Kept.{usdAt, memoriesBytes, inBytes, memoriesIn, fitting, takenDown, broughtBack, named, Kept}
@@ -202,3 +203,9 @@ down-kept name m old room e d t =
 -- where no file is named, a room need hold nothing
 pub none-kept : (name : List ℕ) (m : Memories) (room : List ℕ) → length name ≡ 0 → Kept name m room
 none-kept name m room e t = absurd (subst T (unnamed name e) (both-left (named name) (fitting m room) t))
+
+-- what `keep` leaves holds the memories
+pub now-kept : (name : List ℕ) (m : Memories) (old room : List ℕ) → length room ≡ length old
+    → room ≡ (if named name then takenDown m old else old) → Kept name m room
+now-kept name m old room e d t =
+    down-kept name m old room e (d ∙ chosen (named name) (takenDown m old) old (both-left (named name) (fitting m room) t)) t

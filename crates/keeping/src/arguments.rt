@@ -8,16 +8,17 @@ pub struct Asked {
 }
 
 // Whether argument i is a word.
-pub fn is_word(i: usize, word: &[u8]) -> bool {
+fn is_word(i: usize, word: &[u8]) -> bool {
     let mut argument = io::buffer();
     let length = os::arg(i, &mut argument);
     check::same(&argument[..length], word)
 }
 
-// What stands from argument i on: nothing, or --keep and a name, which is put into a room.
-pub fn ask(i: usize, name: &mut [u8]) -> Asked
+// What stands behind the program's flag, if that is its first argument: nothing, or --keep and a name, which is put into a room.
+pub fn ask(flag: bool, name: &mut [u8]) -> Asked
     ensures { λ r. ⌜ Counts (r .length) (now (name .exit)) ⌝ }
 {
+    let i = if flag { 2 } else { 1 };
     let count = os::arg_count();
     if count <= i {
         return Asked {

@@ -1,7 +1,9 @@
 // Keeps a board's memories in a file, so that a board goes on where it ended. What a file holds no contract says.
 pub mod arguments;
+pub mod fresh;
 pub mod held;
 pub mod room;
+pub mod turns;
 
 ghost use mathlib.Core.Path.{_≡_};
 ghost use mathlib.Core.Bool.{true, false};
@@ -88,8 +90,8 @@ pub fn begin(
 
 // Keeps the memories in the file of a name, where they are not what was kept last, or says why it cannot; without a name it does nothing.
 pub fn keep(name: &[u8], flash: &[u8], sram: &[u8], usd: &[u8], kept: &mut [u8]) -> bool
-    ensures kept { λ _. ⌜ now (kept .exit)
-        ≡ (if named (now (name .entry)) then takenDown (were flash sram usd) (now (kept .entry)) else now (kept .entry)) ⌝ }
+    ensures kept { λ r. ⌜ (r ≡ true
+        → now (kept .exit) ≡ (if named (now (name .entry)) then takenDown (were flash sram usd) (now (kept .entry)) else now (kept .entry))) ⌝ }
     ensures same { λ r. ⌜ (now (kept .exit) ≡ now (kept .entry) → r ≡ true) ⌝ }
 {
     if name.len() == 0 {
@@ -101,4 +103,24 @@ pub fn keep(name: &[u8], flash: &[u8], sram: &[u8], usd: &[u8], kept: &mut [u8])
     } else {
         true
     }
+}
+
+// Keeps the memories and then writes what is to be answered, if all before it could be.
+pub fn tell(
+    told: bool,
+    name: &[u8],
+    flash: &[u8],
+    sram: &[u8],
+    usd: &[u8],
+    kept: &mut [u8],
+    to: i32,
+    text: &[u8],
+) -> bool
+    ensures { λ r. ⌜ (r ≡ true → Kept (now (name .entry)) (were flash sram usd) (now (kept .exit))) ⌝ }
+{
+    if !told {
+        return false;
+    }
+    let held = keep(name, flash, sram, usd, kept);
+    if held { io::write_all(to, text) } else { false }
 }

@@ -1,18 +1,23 @@
--- The board that it sits down at is fresh.
+-- Without a file's name the board that it sits down at is fresh.
 use borrow.Author.Needs.{needs}
+use native.Mathlib.Omega.{arith}
+use mathlib.Core.Path.{_∙_}
 use Rattle.desk_loop.proofs.Hearing.{all-fresh}
 use Rattle.desk_loop.proofs.run.Statement.{statement}
 use Rattle.desk_loop.proofs.run.Tie as tie
 
 sit-requires : tie.Need-sit-requires
 sit-requires c κs =
-    let after-fresh-usd = c .before .before .before .before .before .before in
-    let after-fresh-sram = after-fresh-usd .before in
-    let after-fresh-flash = after-fresh-sram .before in (
+    let after-room = c .before .before .before .before .before .before in
+    let after-begin = after-room .before .before .before .before .before .before in
+    let after-usd = after-begin .before .before .before .before .before .before in
+    let after-sram = after-usd .before in
+    let after-flash = after-sram .before in (
       search needs,
       (
-        search needs,
-        all-fresh (after-fresh-flash .fresh-flash .ensures) (after-fresh-sram .fresh-sram .ensures) (after-fresh-usd .fresh-usd .ensures),
+        omega (arith, after-room .room .ensures),
+        (λ u. after-begin .begin .ensures .0 u ∙ all-fresh (after-flash .flash .ensures)
+            (after-sram .sram .ensures) (after-usd .usd .ensures)),
       ),
     )
 
@@ -24,6 +29,14 @@ run-spec =
     (λ c κs. search needs)
     (λ c κs. search needs)
     (λ c κs. search needs)
+    (λ c. search needs)
+    (λ c. search needs)
+    (λ c. search needs)
+    (λ c. search needs)
+    (λ c κs. search needs)
+    (λ c. search needs)
+    (λ c κs. search needs)
+    (λ c. search needs)
     (λ c. search needs)
     (λ c. search needs)
     (λ c. search needs)

@@ -13,7 +13,7 @@ use Rattle.desk_loop.proofs.sit.Statement.{statement}
 use Rattle.desk_loop.proofs.sit.Tie as tie
 
 abbrev Inv-loop : tie.InvT-loop
-Inv-loop why from to line₀ flash₀ sram₀ usd₀ out₀ desk₀ turns₀ line flash sram usd out desk turns =
+Inv-loop why name from to line₀ flash₀ sram₀ usd₀ out₀ kept₀ desk₀ told₀ turns₀ line flash sram usd out kept desk told turns =
     Ready desk line out
     × (desk .lines + readCharacters * turns ≤ 2 ^ 63)
     × (length line ≡ length line₀)
@@ -21,14 +21,22 @@ Inv-loop why from to line₀ flash₀ sram₀ usd₀ out₀ desk₀ turns₀ lin
     × (length sram ≡ length sram₀)
     × (length usd ≡ length usd₀)
     × (length out ≡ length out₀)
-    × HasHeard why (deskOf desk line (memories flash sram usd))
+    × (length kept ≡ length kept₀)
+    × HasHeard why (memories flash₀ sram₀ usd₀) (deskOf desk line (memories flash sram usd))
 
 abbrev μ-loop : tie.MeasureT-loop
-μ-loop why from to line₀ flash₀ sram₀ usd₀ out₀ desk₀ turns₀ line flash sram usd out desk turns = turns
+μ-loop why name from to line₀ flash₀ sram₀ usd₀ out₀ kept₀ desk₀ told₀ turns₀ line flash sram usd out kept desk told turns = turns
+
+-- the end of the input, and the turn before it that was not made
+abbrev ended : tie.After-tell Inv-loop μ-loop → tie.After-finish Inv-loop μ-loop
+ended c = c .before .before .before .before .before .before .before .before .before .before .before .before .before .before
+
+abbrev last : tie.After-finish Inv-loop μ-loop → tie.At-loop Inv-loop μ-loop
+last c = c .before .before .before .before .before .before .before
 
 loop-holds : tie.Need-loop-holds Inv-loop μ-loop
 loop-holds c =
-    let start = c .before .before .before .before .before .before in (
+    let start = c .before .before .before .before .before .before .before .before in (
       record { room = (start .pre .0); kept = omega arith; written = refl; answers = (start .pre .1 .0) },
       omega arith,
       refl,
@@ -36,27 +44,29 @@ loop-holds c =
       refl,
       refl,
       refl,
-      sits-down (start .args .why) _ (start .args .line .now) _ (c .power-on .ensures .session) (start .pre .1 .1),
+      refl,
+      sits-down (start .args .why) _ (start .args .line .now) _ (c .power-on .ensures .session),
     )
 
 turn-requires : tie.Need-turn-requires Inv-loop μ-loop
 turn-requires c κs =
-    let at-loop = c .before .before .before .before .before .before in
+    let at-loop = c .before .before .before .before .before .before .before in
     (at-loop .loop .inv .0, omega (arith, at-loop .loop .inv .1))
 
 loop-again : tie.Need-loop-again Inv-loop μ-loop
 loop-again c =
-    let after-turn = c .before .before .before .before .before .before .before .before .before .before .before .before in
-    let at-loop = after-turn .before .before .before .before .before .before .before in
+    let after-turn = c .before .before .before .before .before .before .before .before .before .before .before .before .before .before in
+    let at-loop = after-turn .before .before .before .before .before .before .before .before in
     let k = after-turn .turn .kept in (
       after-turn .turn .ensures .0,
-      omega (arith, after-turn .turn .ensures .1 .0, c .turns-left .ensures, at-loop .loop .inv .1),
-      k .1 .1 .1 .0 ∙ at-loop .loop .inv .2,
-      k .1 .1 .1 .1 .0 ∙ at-loop .loop .inv .3,
-      k .1 .1 .1 .1 .1 .0 ∙ at-loop .loop .inv .4,
-      k .1 .1 .1 .1 .1 .1 .0 ∙ at-loop .loop .inv .5,
-      k .1 .1 .1 .1 .1 .1 .1 .0 ∙ at-loop .loop .inv .6,
-      one-more (at-loop .loop .inv .7) (after-turn .turn .ensures .1 .1),
+      omega (arith, after-turn .turn .ensures .1 .0, c .left .ensures, at-loop .loop .inv .1),
+      k .1 .1 .1 .1 .0 ∙ at-loop .loop .inv .2,
+      k .1 .1 .1 .1 .1 .0 ∙ at-loop .loop .inv .3,
+      k .1 .1 .1 .1 .1 .1 .0 ∙ at-loop .loop .inv .4,
+      k .1 .1 .1 .1 .1 .1 .1 .0 ∙ at-loop .loop .inv .5,
+      k .1 .1 .1 .1 .1 .1 .1 .1 .0 ∙ at-loop .loop .inv .6,
+      k .1 .1 .1 .1 .1 .1 .1 .1 .1 .0 ∙ at-loop .loop .inv .7,
+      one-more (at-loop .loop .inv .8) (after-turn .turn .ensures .1 .1 .0),
     )
 
 finish-requires : tie.Need-finish-requires Inv-loop μ-loop
@@ -65,51 +75,22 @@ finish-requires c κs =
     let r = at-loop .loop .inv .0 in
     (omega (arith, r .room, r .kept), (omega (arith, at-loop .loop .inv .1), omega (arith, r .kept, r .written, r .answers)))
 
-slice-reshare-prefix-write-all : tie.Need-slice-reshare-prefix-write-all Inv-loop μ-loop
-slice-reshare-prefix-write-all c =
-    let after-finish = c .before .before .before .before .before .before .before .before in
+slice-reshare-prefix-tell : tie.Need-slice-reshare-prefix-tell Inv-loop μ-loop
+slice-reshare-prefix-tell c =
+    let after-finish = c .before .before .before .before .before .before .before .before .before .before .before .before in
     omega (arith, after-finish .finish .ensures .1, after-finish .finish .kept .1 .1 .1 .1 .1 .0)
 
-slice-aggregate-write-all : tie.Need-slice-aggregate-write-all Inv-loop μ-loop
-slice-aggregate-write-all c =
-    let after-finish = c .before .before .before .before .before .before .before .before .before in
+slice-aggregate-tell : tie.Need-slice-aggregate-tell Inv-loop μ-loop
+slice-aggregate-tell c =
+    let after-finish = c .before .before .before .before .before .before .before .before .before .before .before .before .before in
     sym (length-take-le (after-finish .finish .result .end) (after-finish .finish .last .1 .1 .1 .1 .1 .0)
     (omega (arith, after-finish .finish .ensures .1, after-finish .finish .kept .1 .1 .1 .1 .1 .0)))
 
-same-length : tie.Need-same-length Inv-loop μ-loop
-same-length c =
-    let at-loop = c .before .before .before .before .before .before .before .before .before .before .before .before .before .before .before .before .before in
-    at-loop .loop .inv .2
-
-same-length-2 : tie.Need-same-length-2 Inv-loop μ-loop
-same-length-2 c =
-    let after-finish = c .before .before .before .before .before .before .before .before .before .before in
-    let at-loop = after-finish .before .before .before .before .before .before .before in
-    after-finish .finish .kept .1 .1 .0 ∙ at-loop .loop .inv .3
-
-same-length-3 : tie.Need-same-length-3 Inv-loop μ-loop
-same-length-3 c =
-    let after-finish = c .before .before .before .before .before .before .before .before .before .before in
-    let at-loop = after-finish .before .before .before .before .before .before .before in
-    after-finish .finish .kept .1 .1 .1 .0 ∙ at-loop .loop .inv .4
-
-same-length-4 : tie.Need-same-length-4 Inv-loop μ-loop
-same-length-4 c =
-    let after-finish = c .before .before .before .before .before .before .before .before .before .before in
-    let at-loop = after-finish .before .before .before .before .before .before .before in
-    after-finish .finish .kept .1 .1 .1 .1 .0 ∙ at-loop .loop .inv .5
-
-same-length-5 : tie.Need-same-length-5 Inv-loop μ-loop
-same-length-5 c =
-    let after-finish = c .before .before .before .before .before .before .before .before .before .before in
-    let at-loop = after-finish .before .before .before .before .before .before .before in
-    after-finish .finish .kept .1 .1 .1 .1 .1 .0 ∙ at-loop .loop .inv .6
-
 returns : tie.Need-returns Inv-loop μ-loop
 returns c =
-    let after-finish = c .before .before .before .before .before .before .before .before .before .before in
-    let at-loop = after-finish .before .before .before .before .before .before .before in
-    gets-up (at-loop .loop .inv .7) (after-finish .finish .ensures .0 .state)
+    let after-tell = c .before .before in
+    let finished = ended after-tell in
+    (gets-up (last finished .loop .inv .8) (finished .finish .ensures .0 .state), after-tell .tell .ensures)
 
 pub sit-spec : {M : Type 1} → statement M
 sit-spec =
@@ -121,15 +102,16 @@ sit-spec =
     loop-holds
     turn-requires
     (λ c κs. omega arith)
-    (λ c. omega (arith, c .turns-left .ensures))
+    (λ c. omega (arith, c .left .ensures))
     loop-again
     finish-requires
-    slice-reshare-prefix-write-all
-    slice-aggregate-write-all
+    slice-reshare-prefix-tell
+    slice-aggregate-tell
     (λ c κs. search needs)
-    same-length
-    same-length-2
-    same-length-3
-    same-length-4
-    same-length-5
+    (λ c. last (ended (c .before .before)) .loop .inv .2)
+    (λ c. let finished = ended (c .before .before) in finished .finish .kept .1 .1 .0 ∙ last finished .loop .inv .3)
+    (λ c. let finished = ended (c .before .before) in finished .finish .kept .1 .1 .1 .0 ∙ last finished .loop .inv .4)
+    (λ c. let finished = ended (c .before .before) in finished .finish .kept .1 .1 .1 .1 .0 ∙ last finished .loop .inv .5)
+    (λ c. let finished = ended (c .before .before) in finished .finish .kept .1 .1 .1 .1 .1 .0 ∙ last finished .loop .inv .6)
+    (λ c. let after-tell = c .before .before in omega (arith, after-tell .tell .kept, last (ended after-tell) .loop .inv .7))
     returns)

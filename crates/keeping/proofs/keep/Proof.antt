@@ -12,7 +12,7 @@ returns-2 c =
     let after-take-down = then2 .before .before .before in
     let else1 = after-take-down .before .before in
     let start = else1 .before .before .before .before .before .before in (
-      rw (is-named (start .args .name .now) (else1 .if1 .left)) (after-take-down .take-down .ensures .0),
+      (λ _. rw (is-named (start .args .name .now) (else1 .if1 .left)) (after-take-down .take-down .ensures .0)),
       (λ e. absurd (subst T (sym (then2 .if2 .taken) ∙ after-take-down .take-down .ensures .1 .1 e) tt)),
     )
 
@@ -21,13 +21,13 @@ returns-3 c =
     let after-take-down = c .before .before .before in
     let else1 = after-take-down .before .before in
     let start = else1 .before .before .before .before .before .before in
-    (rw (is-named (start .args .name .now) (else1 .if1 .left)) (after-take-down .take-down .ensures .0), (λ _. refl))
+    ((λ _. rw (is-named (start .args .name .now) (else1 .if1 .left)) (after-take-down .take-down .ensures .0)), (λ _. refl))
 
 pub keep-spec : {M : Type 1} → statement M
 keep-spec =
     tie.close
     (tie.spec
-    (λ c. (rw (unnamed (c .before .before .before .before .before .before .args .name .now) (c .if1 .taken)) refl, (λ _. refl)))
+    (λ c. ((λ _. rw (unnamed (c .before .before .before .before .before .before .args .name .now) (c .if1 .taken)) refl), (λ _. refl)))
     (λ c κs. search needs)
     (λ c κs. search needs)
     (λ c. search needs)
