@@ -7,3 +7,4 @@ pub mod Promise
 pub mod Refusals
 pub mod Gathering
 pub mod Slices
+pub mod Stops

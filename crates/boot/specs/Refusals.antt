@@ -11,6 +11,7 @@ use Rattle.boot.specs.Session.{sound}
 use Rattle.boot.specs.Causes.{causeNo}
 use Rattle.boot.specs.Calls.{State, Power, Byte, Framed, causeFor}
 use Rattle.boot.specs.Promise.{Given, Left, Took}
+use Rattle.boot.specs.Slices.{sliceCause, GivenBytes, TookBytes}
 
 -- the first cause that holds is given, and none otherwise
 pub record FirstCauses : Type 0 where
@@ -33,18 +34,29 @@ pub record FirstCauses : Type 0 where
       else if not (sound (p .session)) then 4
       else if eqb (p .session .carrier) 3 then 5
       else 0)
+  -- a slice of bytes, whatever it is and whatever the room: as a byte, save that reply room is never refused
+  pub slice : (p : State)
+      → causeNo (sliceCause p)
+      ≡ (if not (proper (p .memories)) then 1
+      else if not (sound (p .session)) then 4
+      else if eqb (p .session .carrier) 3 then 5
+      else 0)
 
 -- length 0, no reason and no place, session and all buffers unchanged
-pub record Unchanged (g : Given) (l : Left) : Type 0 where
+pub record Unchanged (p : State) (lent : List ℕ) (l : Left) : Type 0 where
   pub count : l .result .length ≡ 0
   pub reason : l .result .reason ≡ 0
   pub place : l .result .place ≡ 0
-  pub session : l .result .session ≡ g .state .session
-  pub flash : l .flash ≡ g .state .memories .flash
-  pub sram : l .sram ≡ g .state .memories .sram
-  pub usd : l .usd ≡ g .state .memories .usd
-  pub buffer : l .buffer ≡ g .buffer
+  pub session : l .result .session ≡ p .session
+  pub flash : l .flash ≡ p .memories .flash
+  pub sram : l .sram ≡ p .memories .sram
+  pub usd : l .usd ≡ p .memories .usd
+  pub buffer : l .buffer ≡ lent
 
 -- whatever a call that keeps its promise is given: where its number is not 0, it has changed nothing
 abbrev pub Refusals : Type 0
-Refusals = (g : Given) (l : Left) → Took g l → (l .result .number ≡ 0 → ⊥) → Unchanged g l
+Refusals = (g : Given) (l : Left) → Took g l → (l .result .number ≡ 0 → ⊥) → Unchanged (g .state) (g .buffer) l
+
+-- so has the call of a slice, and it has taken no byte
+abbrev pub SliceRefusals : Type 0
+SliceRefusals = (g : GivenBytes) (n : ℕ) (l : Left) → TookBytes g n l → (l .result .number ≡ 0 → ⊥) → (n ≡ 0) × Unchanged (g .state) (g .buffer) l

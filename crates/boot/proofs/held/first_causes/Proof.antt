@@ -8,6 +8,7 @@ use Rattle.memories.specs.Memories.{proper}
 use Rattle.boot.specs.Session.{sound}
 use Rattle.boot.specs.Causes.{causeNo, causeOf}
 use Rattle.boot.specs.Calls.{causeFor}
+use Rattle.boot.specs.Slices.{sliceCause}
 use Rattle.boot.specs.Refusals.{FirstCauses}
 use Rattle.boot.specs.declared.Cause.the-variants.{Accepted, UnsoundSession, BoardRunning}
 use Rattle.boot.specs.declared.Session.{Session}
@@ -30,11 +31,12 @@ first true true true s = by-session (sound s) (eqb (s .carrier) 3)
     by-session true true = refl
 
 causes : FirstCauses
-unfolding causeFor
+unfolding causeFor sliceCause
 causes = record {
   power = λ p. refl;
   byte = λ room b p. first (proper (p .memories)) (leb 257 room) true (p .session);
   frame = λ room f p. first (proper (p .memories)) (leb 363 room) (isFrame classic f) (p .session);
+  slice = λ p. first (proper (p .memories)) true true (p .session);
 }
 
 pub first-causes-spec : {M : Type 1} → statement M

@@ -15,7 +15,7 @@ nothing-changed g l t n = by-test (accepts (causeFor (g .input) (g .state))) t
     by-test : (b : Bool)
         → Leaves (if b then perform (g .input) (g .state) (decide (g .input) (g .state .session) (viewIn (g .state)))
         else refused (causeFor (g .input) (g .state)) (g .state)) (g .buffer) l
-        → Unchanged g l
+        → Unchanged (g .state) (g .buffer) l
     by-test true t = absurd (n (t .number))
     by-test false t = record {
       count = t .count;
