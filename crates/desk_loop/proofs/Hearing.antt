@@ -5,7 +5,7 @@ use mathlib.Core.List.{List, [], _++_}
 use Prim.Native.Nat.{ℕ, _≤_}
 use lib.ListN.{length}
 use Rattle.words.specs.Over.{put}
-use Rattle.memories.specs.Memories.{Memories, memories, freshMemories}
+use Rattle.memories.specs.Memories.{Memories}
 use Rattle.boot.specs.Session.{fresh}
 use Rattle.boot.specs.declared.Session.{Session}
 use Rattle.desk_answers.specs.Told.{Told}
@@ -14,11 +14,6 @@ use Rattle.desk_answers.specs.Promise.{Tells}
 use Rattle.desk_answers.proofs.Whole.{hears-parts}
 use Rattle.desk_hearing.specs.Promise.{deskOf}
 use Rattle.desk_loop.specs.Turns.{readCharacters, Turns, deskAt, HasHeard, LeftBy}
-
--- three memories that are each the fresh board's
-pub all-fresh : {flash sram usd : List ℕ} → flash ≡ freshMemories .flash → sram ≡ freshMemories .sram → usd ≡ freshMemories .usd
-    → memories flash sram usd ≡ freshMemories
-all-fresh f s u = λ i. memories (f i) (s i) (u i)
 
 -- a desk that sits down at a board, just powered
 pub sits-down : (why : Bool) (s : Session) (line : List ℕ) (m : Memories) → s ≡ fresh

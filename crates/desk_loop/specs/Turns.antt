@@ -1,13 +1,12 @@
 -- What is so between two reads, and what some text that was read has left.
 use Prim.Native.Nat.{ℕ, _+_, _*_, _≤_}
 use mathlib.Core.Path.{_≡_}
-use mathlib.Core.Bool.{Bool, false}
+use mathlib.Core.Bool.{Bool}
 use mathlib.Core.List.{List, []}
 use lib.ListN.{length}
 use Rattle.words.specs.Over.{put}
-use Rattle.memories.specs.Memories.{Memories, freshMemories}
+use Rattle.memories.specs.Memories.{Memories}
 use Rattle.boot.specs.Calls.{powered}
-use Rattle.keeping.specs.Kept.{named}
 use Rattle.desk_answers.specs.Promise.{characterRoom}
 use Rattle.desk_answers.specs.Told.{_then_}
 use Rattle.desk_answers.specs.Desk as D
@@ -35,10 +34,6 @@ pub record Turns (before : D.Desk) (lent : List ℕ) (after : D.Desk) (left : Li
   pub few : length text ≤ readCharacters
   pub desk : after ≡ hears text before .state
   pub told : left ≡ put lent 0 (hears text before .text)
-
--- a board begins with the fresh memories where no file is named, and else with any
-abbrev pub Begins : List ℕ → Memories → Type 0
-Begins name m = named name ≡ false → m ≡ freshMemories
 
 -- the desk at the start, at a board with such memories
 abbrev pub deskAt : Bool → Memories → D.Desk

@@ -15,7 +15,7 @@ use Rattle.words.proofs.Over.{put-all, over-then}
 use Rattle.words.proofs.Slices.{length-part}
 use Rattle.words.proofs.Tests.{both-left, both-right, holds-true, chosen}
 use Rattle.board.specs.Board as B
-use Rattle.memories.specs.Memories.{Memories, memories, proper}
+use Rattle.memories.specs.Memories.{Memories, memories, proper, freshMemories}
 use Rattle.keeping.specs.Kept.{usdAt, memoriesBytes, inBytes, memoriesIn, fitting, takenDown, broughtBack, named, Kept}
 
 -- ---- lengths
@@ -209,3 +209,8 @@ pub now-kept : (name : List ℕ) (m : Memories) (old room : List ℕ) → length
     → room ≡ (if named name then takenDown m old else old) → Kept name m room
 now-kept name m old room e d t =
     down-kept name m old room e (d ∙ chosen (named name) (takenDown m old) old (both-left (named name) (fitting m room) t)) t
+
+-- three memories that are each the fresh board's
+pub all-fresh : {flash sram usd : List ℕ} → flash ≡ freshMemories .flash → sram ≡ freshMemories .sram → usd ≡ freshMemories .usd
+    → memories flash sram usd ≡ freshMemories
+all-fresh f s u = λ i. memories (f i) (s i) (u i)

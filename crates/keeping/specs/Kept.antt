@@ -1,14 +1,14 @@
 -- A board's memories as the bytes of a file: flash, SRAM and user system data, one behind the other.
 use Prim.Native.Nat.{ℕ, _+_}
 use mathlib.Core.Path.{_≡_}
-use mathlib.Core.Bool.{Bool, _&&_}
+use mathlib.Core.Bool.{Bool, false, _&&_}
 use mathlib.Core.List.{List, _++_}
 use lib.Dec.{T, eqb, ltb}
 use lib.ListN.{length}
 use Rattle.words.specs.Choice.{if_then_else_}
 use Rattle.words.specs.Lists.{part}
 use Rattle.board.specs.Board as B
-use Rattle.memories.specs.Memories.{Memories, memories, proper}
+use Rattle.memories.specs.Memories.{Memories, memories, proper, freshMemories}
 
 -- where user system data begins, and how many bytes all are
 abbrev pub usdAt : ℕ
@@ -45,3 +45,7 @@ named name = ltb 0 (length name)
 -- where a file is named, the room holds the memories
 abbrev pub Kept : List ℕ → Memories → List ℕ → Type 0
 Kept name m room = T (named name && fitting m room) → room ≡ inBytes m
+
+-- a board begins with the fresh memories where no file is named, and else with any
+abbrev pub Begins : List ℕ → Memories → Type 0
+Begins name m = named name ≡ false → m ≡ freshMemories

@@ -2,7 +2,7 @@
 use borrow.Author.Needs.{needs}
 use native.Mathlib.Omega.{arith}
 use mathlib.Core.Path.{_∙_}
-use Rattle.desk_loop.proofs.Hearing.{all-fresh}
+use Rattle.keeping.proofs.Rooms.{all-fresh}
 use Rattle.desk_loop.proofs.run.Statement.{statement}
 use Rattle.desk_loop.proofs.run.Tie as tie
 

@@ -1,0 +1,4 @@
+pub mod St
+pub mod Port
+pub mod Turns
+pub mod Rulings
