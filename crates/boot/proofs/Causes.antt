@@ -11,7 +11,7 @@ use Rattle.words.specs.Choice.{if_then_else_}
 use Rattle.boot.specs.Session.{on, sound}
 use Rattle.boot.specs.Causes.{causeNo, accepts, causeOf}
 use Rattle.boot.specs.Calls.{State, Input, Outcome, viewIn, causeFor, decide, perform, refused, call}
-use Rattle.boot.specs.Promise.{Given, Left, left, refusedTaken, outcome, Leaves, Took}
+use Rattle.boot.specs.Promise.{Given, Left, left, unansweredTaken, outcome, Leaves, Took}
 use Rattle.carriers.specs.declared.Carrier.the-variants.{Running}
 use Rattle.boot.specs.declared.Cause.{Cause}
 use Rattle.boot.specs.declared.Cause.the-variants.{Accepted, WrongMemory, ShortReply, BadFrame, UnsoundSession, BoardRunning}
@@ -85,7 +85,7 @@ abbrev pub performed : Given → Outcome
 performed g = perform (g .input) (g .state) (decide (g .input) (g .state .session) (viewIn (g .state)))
 
 -- what is handed back for a cause leaves everything as it was
-pub refused-leaves : {c : Cause} (p : State) (buffer : List ℕ) {r : Taken} → r ≡ refusedTaken c (p .session)
+pub refused-leaves : {c : Cause} (p : State) (buffer : List ℕ) {r : Taken} → r ≡ unansweredTaken c (p .session)
     → Leaves (refused c p) buffer (left r (p .memories) buffer)
 refused-leaves p buffer e = record {
   number = ap (λ (z : Taken). z .number) e;
@@ -108,7 +108,7 @@ module _ (g : Given) (c : Cause) (ec : c ≡ causeFor (g .input) (g .state)) whe
   accepted-took h k = rw (← ec, h) k
 
   -- a refused call leaves everything as it was
-  pub refused-took : {r : Taken} → accepts c ≡ false → r ≡ refusedTaken c (g .state .session)
+  pub refused-took : {r : Taken} → accepts c ≡ false → r ≡ unansweredTaken c (g .state .session)
       → Took g (left r (g .state .memories) (g .buffer))
   unfolding outcome call
   refused-took h e = rw (← ec, h) (refused-leaves (g .state) (g .buffer) e)

@@ -21,7 +21,7 @@ use Rattle.boot.specs.Session.{on, sound, gathered}
 use Rattle.boot.specs.Causes.{causeNo, causeOf, accepts}
 use Rattle.boot.specs.Calls.{State, Byte, Outcome, viewIn, causeFor, decide, sent, perform, refused, call, outcomes, run}
 use Rattle.boot.specs.Gathering.{Gathers}
-use Rattle.boot.specs.Promise.{Left, left, stateOf, refusedTaken, outcome, Leaves}
+use Rattle.boot.specs.Promise.{Left, left, stateOf, unansweredTaken, outcome, Leaves}
 use Rattle.boot.specs.Slices.{oneByOne, afterBytes, howMany, Nack, noNack, later, asOne, taking, sliceCause, callBytes, GivenBytes, givenBytes}
 use Rattle.boot.specs.Slices.{sliceOutcome, LeavesBytes, TookBytes, nackOf, joined, TookFront}
 use Rattle.carriers.specs.declared.Carrier.the-variants.{Uart}
@@ -272,15 +272,23 @@ module _ (bytes buffer : List ℕ) (count : ℕ) (done : Taken) (m : Memories) (
 
 -- ---- the end
 
+-- the first calls of some bytes are the calls of the first bytes
+first-calls : (n : ℕ) (bs : List ℕ) (p : State) → take n (oneByOne bs p) ≡ oneByOne (take n bs) p
+unfolding outcomes
+first-calls zero bs p = refl
+first-calls (suc n) [] p = refl
+first-calls (suc n) (b ∷ bs) p = ap (λ (os : List Outcome). call (Byte uartRoom b) p ∷ os) (first-calls n bs (call (Byte uartRoom b) p .state))
+
 -- what taking ends in is what the call of a slice leaves
 pub ends-leaves : (s : Session) (m : Memories) (lent bs : List ℕ) {r : Taken} {n : ℕ} {m' : Memories} {buffer : List ℕ}
     → r .number ≡ 0 → r .length ≤ length lent
     → here n (r .length) buffer (nackOf r) (stateOf (r .session) m') ≡ ends 0 0 lent noNack (length lent) bs (stateOf s m)
     → LeavesBytes (taking (length lent) bs (stateOf s m)) lent n (left r m' buffer)
 unfolding asOne
-ends-leaves s m lent bs {r} e h k =
-    let c : r .length ≡ 0 + length (replies (take (howMany (length lent) (oneByOne bs (stateOf s m))) (oneByOne bs (stateOf s m)))) =
-    ap (λ (z : Ending). z .end) k in
+ends-leaves s m lent bs {r} e h whole =
+    let n = howMany (length lent) (oneByOne bs (stateOf s m)) in
+    let k = rw (first-calls n bs (stateOf s m)) at whole in
+    let c : r .length ≡ 0 + length (replies (oneByOne (take n bs) (stateOf s m))) = ap (λ (z : Ending). z .end) k in
     record {
       count = let i = ap (λ (z : Ending). z .count) k in omega arith;
       leaves = record {
@@ -303,7 +311,7 @@ module _ (g : GivenBytes) (c : Cause) (ec : c ≡ sliceCause (g .state)) where
   slice-taken h k = rw (← ec, h) k
 
   -- one that is leaves everything as it was
-  pub slice-refused : {r : Taken} → accepts c ≡ false → r ≡ refusedTaken c (g .state .session)
+  pub slice-refused : {r : Taken} → accepts c ≡ false → r ≡ unansweredTaken c (g .state .session)
       → TookBytes g 0 (left r (g .state .memories) (g .buffer))
   unfolding sliceOutcome callBytes
   slice-refused h e = rw (← ec, h) (record { count = refl; leaves = refused-leaves (g .state) (g .buffer) e })

@@ -64,10 +64,14 @@ brings Power = []
 brings (Byte room b) = b ∷ []
 brings (Framed room l) = carried (frameIn l)
 
+-- why a UART byte is refused, if it is, whatever byte it is, with such a room for the reply
+abbrev pub byteCause : ℕ → State → Cause
+byteCause room p = causeOf (proper (p .memories)) (leb UC.uartRoom room) true (p .session)
+
 -- why an input is refused, if it is
 unfoldable pub causeFor : Input → State → Cause
 causeFor Power p = Accepted
-causeFor (Byte room b) p = causeOf (proper (p .memories)) (leb UC.uartRoom room) true (p .session)
+causeFor (Byte room b) p = byteCause room p
 causeFor (Framed room l) p = causeOf (proper (p .memories)) (leb CC.canRoom room) (isFrame classic l) (p .session)
 
 -- what the board may look at in a state

@@ -9,9 +9,9 @@ use Rattle.boot.specs.Session.{on, sound}
 use Rattle.carriers.specs.declared.Carrier.the-variants.{Uart, Can}
 use Rattle.boot.specs.declared.Session.{Session}
 
--- so many UART bytes are only gathered: the memories have their lengths, and a sound session on UART expects more
-pub record Gathers (s : Session) (right : Bool) (n : ℕ) : Type 0 where
-  pub lengths : T right
+-- so many UART bytes are only gathered: what is lent has its lengths, and a sound session on UART expects more
+pub record Gathers (s : Session) (ready : Bool) (n : ℕ) : Type 0 where
+  pub lengths : T ready
   pub here : T (on Uart s)
   pub firm : T (sound s)
   pub short : s .taken + n < s .expected

@@ -71,9 +71,9 @@ acceptedTaken c s t d n = record {
   session = S.after c t (d .next) s;
 }
 
--- what a refused call hands back
-abbrev pub refusedTaken : Cause → Session → Taken
-refusedTaken c s = record { number = causeNo c; length = 0; reason = noReason; place = 0; session = s }
+-- what is handed back where nothing was taken: the number of a cause, or of none
+abbrev pub unansweredTaken : Cause → Session → Taken
+unansweredTaken c s = record { number = causeNo c; length = 0; reason = noReason; place = 0; session = s }
 
 -- what is left is what an outcome says, part by part; the reply buffer beyond the reply is unchanged
 pub record Leaves (o : Outcome) (lent : List ℕ) (l : Left) : Type 0 where

@@ -1,7 +1,7 @@
 -- A slice of UART bytes that is taken by one call: document 02, Wish 4.
 use Prim.Native.Nat.{ℕ, zero, suc, _+_, _-_, _<_}
 use mathlib.Core.Path.{_≡_}
-use mathlib.Core.Bool.{true, _&&_}
+use mathlib.Core.Bool.{_&&_}
 use mathlib.Core.List.{List, [], _∷_, map, foldl}
 use lib.Dec.{eqb, leb}
 use lib.ListN.{length, take, getD}
@@ -11,8 +11,8 @@ use Rattle.memories.specs.Memories.{Memories, proper}
 use Rattle.command.specs.Why.{noReason}
 use Rattle.uart.specs.Conversation.{uartRoom}
 use Rattle.boot.specs.Session.{gathered}
-use Rattle.boot.specs.Causes.{causeOf, accepts}
-use Rattle.boot.specs.Calls.{State, Byte, Outcome, refused, outcomes, run}
+use Rattle.boot.specs.Causes.{accepts}
+use Rattle.boot.specs.Calls.{State, Byte, Outcome, byteCause, refused, outcomes, run}
 use Rattle.boot.specs.Gathering.{Gathers}
 use Rattle.boot.specs.Promise.{Left, stateOf, givenByte, Leaves, Took}
 use Rattle.boot.specs.declared.Cause.{Cause}
@@ -62,28 +62,27 @@ pub record SliceOutcome : Type 0 where
   pub count : ℕ
   pub outcome : Outcome
 
--- the calls of n bytes as one: their replies joined, the last reason with its place, and the state that they leave
-unfoldable pub asOne : ℕ → List ℕ → State → SliceOutcome
-asOne n bs p = record {
-  count = n;
-  outcome = record {
-    cause = Accepted;
-    reply = join (map (λ (o : Outcome). o .reply) (take n (oneByOne bs p)));
-    reason = lastNack (take n (oneByOne bs p)) .reason;
-    place = lastNack (take n (oneByOne bs p)) .place;
-    state = afterBytes (take n bs) p;
-  };
+-- the calls of some bytes as one, which is accepted: their replies joined, the last reason with its place, and the state that they leave
+unfoldable pub asOne : List ℕ → State → Outcome
+asOne bs p = record {
+  cause = Accepted;
+  reply = join (map (λ (o : Outcome). o .reply) (oneByOne bs p));
+  reason = lastNack (oneByOne bs p) .reason;
+  place = lastNack (oneByOne bs p) .place;
+  state = afterBytes bs p;
 }
 
--- as many are taken as there is room for
+-- as many bytes are taken as find room and are not refused; a refusal met midway stops it and is not returned
 abbrev pub taking : ℕ → List ℕ → State → SliceOutcome
-taking room bs p = asOne (howMany room (oneByOne bs p)) bs p
+taking room bs p =
+    let n = howMany room (oneByOne bs p) in
+    record { count = n; outcome = asOne (take n bs) p }
 
--- refused for the causes of a single byte, in their order, save reply room; tested first, whatever the slice and the room
+-- refused as a single byte is that has room enough, so never for reply room; tested first, whatever the slice and the room
 unfoldable pub sliceCause : State → Cause
-sliceCause p = causeOf (proper (p .memories)) true true (p .session)
+sliceCause p = byteCause uartRoom p
 
--- one call; a refusal met midway stops it and is not returned
+-- one call
 unfoldable pub callBytes : ℕ → List ℕ → State → SliceOutcome
 callBytes room bs p =
     if accepts (sliceCause p) then taking room bs p
@@ -119,7 +118,7 @@ TookBytes g n l = LeavesBytes (sliceOutcome g) (g .buffer) n l
 abbrev pub nackOf : Taken → Nack
 nackOf t = record { reason = t .reason; place = t .place }
 
--- what a call and the next one hand back as one: their replies one behind the other, the last reason with its place, and the last session
+-- what a call and the next one hand back as one: the first number, their replies one behind the other, the last reason with its place, the last session
 abbrev pub joined : Taken → Taken → Taken
 joined a b = record {
   number = a .number;

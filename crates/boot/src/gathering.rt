@@ -5,12 +5,12 @@ ghost use Rattle.boot.specs.Gathering.{Gathers, HearsFrames, SilentFrame
 use crate::Session;
 use carriers::Carrier;
 
-// How many of n bytes the session only gathers, given whether the memories have their lengths: taking them at once is taking them one by one.
-pub fn silent_bytes(session: Session, n: usize, right: bool) -> usize
+// How many of n bytes the session only gathers, given whether what is lent has its lengths: taking them at once is taking them one by one.
+pub fn silent_bytes(session: Session, n: usize, ready: bool) -> usize
     ensures few { λ r. ⌜ r ≤ n ⌝ }
-    ensures silent { λ r. ⌜ (0 < r → Gathers session right r) ⌝ }
+    ensures silent { λ r. ⌜ (0 < r → Gathers session ready r) ⌝ }
 {
-    let gathers = right & session.on(Carrier::Uart) & session.sound();
+    let gathers = ready & session.on(Carrier::Uart) & session.sound();
     if gathers {
         words::least(n, session.expected - session.taken - 1)
     } else {

@@ -10,6 +10,9 @@ pub mod take;
 ghost use mathlib.Core.Path.{_≡_};
 ghost use Rattle.boot.specs.Causes.{causeNo};
 
+// The number of a call that is accepted.
+pub const ACCEPTED: u8 = 0;
+
 // Why a call is refused, and that it is not.
 pub enum Cause {
     Accepted,
@@ -46,7 +49,7 @@ impl Cause {
         ensures { λ r. ⌜ r ≡ causeNo self ⌝ }
     {
         match self {
-            Cause::Accepted => 0,
+            Cause::Accepted => ACCEPTED,
             Cause::WrongMemory => 1,
             Cause::ShortReply => 2,
             Cause::BadFrame => 3,

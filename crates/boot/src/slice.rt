@@ -7,6 +7,7 @@ ghost use Rattle.memories.specs.Effects.{stagedBytes};
 ghost use Rattle.boot.specs.Session.{gathered};
 ghost use Rattle.boot.specs.Promise.{left, stateOf};
 ghost use Rattle.boot.specs.Slices.{taking, givenBytes, LeavesBytes, TookBytes, joined, TookFront};
+use crate::ACCEPTED;
 use crate::Cause;
 use crate::Session;
 use crate::Taken;
@@ -23,11 +24,11 @@ pub struct Front {
 // What the call of a slice hands back: how many bytes it took, and the rest as a single call does.
 pub struct TakenBytes {
     pub count: usize,
-    pub taken: Taken,
+    pub call: Taken,
 }
 
 impl Taken {
-    // What this call and the next one hand back as one.
+    // What this call and the next one hand back as one, with the number of this one.
     fn followed_by(self, next: Taken) -> Taken
         requires { ⌜ self .length + next .length < 2 ^ 64 ⌝ }
         ensures { λ r. ⌜ r ≡ joined self next ⌝ }
@@ -81,7 +82,7 @@ impl Session {
         }
     }
 
-    // Takes the bytes of a slice until one is refused, front by front.
+    // Takes the bytes of a slice, front by front, until one is refused: for a board that runs, or for the room that is left.
     fn take_on(
         self,
         bytes: &[u8],
@@ -91,9 +92,10 @@ impl Session {
         buffer: &mut [u8],
     ) -> TakenBytes
         ensures { λ r. ⌜ LeavesBytes (taking (length (now (buffer .entry))) (now (bytes .entry)) (stateOf self (were flash sram usd)))
-            (now (buffer .entry)) (r .count) (left (r .taken) (are flash sram usd) (now (buffer .exit))) ⌝ }
+            (now (buffer .entry)) (r .count) (left (r .call) (are flash sram usd) (now (buffer .exit))) ⌝ }
     {
         let n = bytes.len();
+        // Nothing is taken yet.
         let mut done = self.unanswered(Cause::Accepted);
         let mut count = 0;
         while count < n {
@@ -104,17 +106,17 @@ impl Session {
             let number = taken.number;
             done = done.followed_by(taken);
             count += front.silent;
-            if number != 0 {
+            if number != ACCEPTED {
                 return TakenBytes {
                     count: count,
-                    taken: done,
+                    call: done,
                 };
             }
             count += 1;
         }
         TakenBytes {
             count: count,
-            taken: done,
+            call: done,
         }
     }
 
@@ -128,15 +130,14 @@ impl Session {
         buffer: &mut [u8],
     ) -> TakenBytes
         ensures { λ r. ⌜ TookBytes (givenBytes self (now (bytes .entry)) (were flash sram usd) (now (buffer .entry)))
-            (r .count) (left (r .taken) (are flash sram usd) (now (buffer .exit))) ⌝ }
+            (r .count) (left (r .call) (are flash sram usd) (now (buffer .exit))) ⌝ }
     {
-        let right = take::lengths_right(flash.len(), sram.len(), usd.len());
-        let cause = self.cause(right, true, true);
+        let cause = self.byte_cause(flash.len(), sram.len(), usd.len(), uart::ROOM);
         let clear = cause.accepts();
         if !clear {
             return TakenBytes {
                 count: 0,
-                taken: self.unanswered(cause),
+                call: self.unanswered(cause),
             };
         }
         self.take_on(bytes, flash, sram, usd, buffer)

@@ -11,7 +11,7 @@ ghost use Rattle.frames.specs.Frames.{classic, isFrame};
 ghost use Rattle.boot.specs.Session.{sound};
 ghost use Rattle.boot.specs.Causes.{accepts, causeOf};
 ghost use Rattle.boot.specs.Calls.{bears};
-ghost use Rattle.boot.specs.Promise.{left, givenByte, givenFrame, acceptedTaken, refusedTaken, Took};
+ghost use Rattle.boot.specs.Promise.{left, givenByte, givenFrame, acceptedTaken, unansweredTaken, Took};
 use crate::Cause;
 use crate::Session;
 use crate::Taken;
@@ -74,7 +74,7 @@ impl Session {
     }
 
     // Why a byte is refused, if it is, given the lengths of what is lent.
-    fn byte_cause(self, flash: usize, sram: usize, usd: usize, room: usize) -> Cause
+    pub(crate) fn byte_cause(self, flash: usize, sram: usize, usd: usize, room: usize) -> Cause
         ensures { λ r. ⌜ r ≡ causeOf (lengthsRight flash sram usd) (leb UC.uartRoom room) true self ⌝ }
     {
         self.cause(lengths_right(flash, sram, usd), uart::has_room(room), true)
@@ -93,7 +93,7 @@ impl Session {
 
     // What is handed back where nothing is taken: the cause's number, no reply, no reason, and the session stays.
     pub(crate) fn unanswered(self, cause: Cause) -> Taken
-        ensures { λ r. ⌜ r ≡ refusedTaken cause self ⌝ }
+        ensures { λ r. ⌜ r ≡ unansweredTaken cause self ⌝ }
     {
         Taken {
             number: cause.number(),

@@ -15,7 +15,7 @@ pub extern "C" fn oilthicket_power_on(session: &mut [u8]) -> u8
         return session_bytes::UNSOUND_SESSION;
     }
     session_bytes::write(Session::power_on(), session);
-    session_bytes::ACCEPTED
+    boot::ACCEPTED
 }
 
 // Takes one UART byte, with the session, the memories and the reply buffer that are lent.
@@ -85,7 +85,7 @@ pub extern "C" fn oilthicket_take_bytes(
         (now (buffer .exit)) ⌝ }
 {
     let took = session_bytes::read(session).take_bytes(bytes, flash, sram, usd, buffer);
-    let call = took.taken;
+    let call = took.call;
     *taken = took.count;
     *length = call.length;
     *reason = call.reason;

@@ -7,11 +7,9 @@ ghost use Rattle.boot.specs.Causes.{causeNo};
 ghost use Rattle.boot.specs.declared.Cause.the-variants.{Accepted};
 ghost use Rattle.session_bytes.specs.Sessions.{sessionLength, stagedPlace, sessionBytes, heldIn, noSession, sessionIn};
 ghost use Rattle.session_bytes.specs.Promise.{HandsOn};
+use boot::ACCEPTED;
 use boot::Session;
 use boot::Taken;
-
-// The number of a call that is accepted.
-pub const ACCEPTED: u8 = 0;
 
 // The number of a call that is refused for its session.
 pub const UNSOUND_SESSION: u8 = 4;

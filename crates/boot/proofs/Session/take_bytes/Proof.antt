@@ -18,11 +18,9 @@ unfolding sliceCause
 returns c =
     let then1 = c .before in
     let after-accepts = then1 .before in
-    let after-cause = after-accepts .before in
-    let after-lengths-right = after-cause .before in
-    let after-shared-slice-known = after-lengths-right .before .before .before .before .before in
-    slice-refused (given (after-shared-slice-known .before)) (after-cause .cause .result)
-    (rw (after-lengths-right .lengths-right .ensures) at (after-cause .cause .ensures))
+    let after-byte-cause = after-accepts .before in
+    let entry = after-byte-cause .before .before .before .before .before .before in
+    slice-refused (given entry) (after-byte-cause .byte-cause .result) (after-byte-cause .byte-cause .ensures)
     (sym (after-accepts .accepts .ensures) ∙ not-true (after-accepts .accepts .result) (then1 .if1 .taken)) (c .unanswered .ensures)
 
 returns-2 : tie.Need-returns-2
@@ -31,11 +29,9 @@ returns-2 c =
     let after-take-on = c .before .before .before .before .before .before .before .before in
     let else1 = after-take-on .before .before .before .before .before in
     let after-accepts = else1 .before in
-    let after-cause = after-accepts .before in
-    let after-lengths-right = after-cause .before in
-    let after-shared-slice-known = after-lengths-right .before .before .before .before .before in
-    slice-taken (given (after-shared-slice-known .before)) (after-cause .cause .result)
-    (rw (after-lengths-right .lengths-right .ensures) at (after-cause .cause .ensures))
+    let after-byte-cause = after-accepts .before in
+    let entry = after-byte-cause .before .before .before .before .before .before in
+    slice-taken (given entry) (after-byte-cause .byte-cause .result) (after-byte-cause .byte-cause .ensures)
     (sym (after-accepts .accepts .ensures) ∙ not-false (after-accepts .accepts .result) (else1 .if1 .left))
     (after-take-on .take-on .ensures)
 
@@ -44,7 +40,6 @@ unfolding sliceCause
 take-bytes-spec =
     tie.close
     (tie.spec
-    (λ c κs. search needs)
     (λ c κs. search needs)
     (λ c κs. search needs)
     (λ c κs. search needs)

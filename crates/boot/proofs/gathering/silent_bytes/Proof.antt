@@ -14,11 +14,11 @@ abbrev start : tie.Then1 → tie.Start
 start c = c .before .before .before
 
 -- what the test has shown of the memories and the session
-tested : (c : tie.Then1) → T (start c .args .right) × T (on Uart (start c .args .session)) × T (sound (start c .args .session))
+tested : (c : tie.Then1) → T (start c .args .ready) × T (on Uart (start c .args .session)) × T (sound (start c .args .session))
 tested c =
     let after-sound = c .before in
     let after-on = after-sound .before in
-    all-three (start c .args .right) (on Uart (start c .args .session)) (sound (start c .args .session))
+    all-three (start c .args .ready) (on Uart (start c .args .session)) (sound (start c .args .session))
     (rw (after-on .on .ensures, after-sound .sound .ensures) at (c .if1 .taken))
 
 sub-least : tie.Need-sub-least
