@@ -24,7 +24,8 @@ extern "C" {
 #define OILTHICKET_SRAM_BYTES 8192
 #define OILTHICKET_USD_BYTES 64
 
-/* The least bytes of a reply buffer: for a UART byte, one of a slice too, and for a CAN frame. */
+/* The room that the reply to a UART byte must have, and that to a CAN frame. A slice of bytes is taken as
+ * far as the first is left for each. */
 #define OILTHICKET_UART_REPLY_BYTES 257
 #define OILTHICKET_CAN_REPLY_BYTES 363
 
@@ -74,12 +75,13 @@ uint8_t oilthicket_take_byte(uint8_t *session, size_t session_length,
  * Gives the number of the call, writes how many bytes were taken to *taken and the length of the joined
  * replies to *length; session, memories and replies are those of a call for each byte taken. It stops
  * before a byte for which fewer than 257 bytes of the buffer are left, even if that byte would bring no
- * reply, and behind one that makes the board run; the number is 0 then, and the rest may be given to a call
- * with an emptied buffer. If NACKs are in the replies, the reason of the last one is written to *reason, and
- * to *place which byte of its own command brought it, from 1; else both are 0. A buffer of any length may be
- * lent: 2 is never given. The other causes of a UART byte are tested first, in their order, even for no
- * bytes at all; a refused call has taken, length, reason and place 0 and leaves every other byte that was
- * lent. A session's slice that is not 280 bytes long is an unsound session. */
+ * reply; the rest may then be given to another call, with the whole buffer. It stops behind a byte that
+ * makes the board run; another call for the rest gives 5. The number is 0 in both cases. If NACKs are in
+ * the replies, the reason of the last one is written to *reason, and to *place which byte of its own command
+ * brought it, from 1; else both are 0. A buffer of any length may be lent: 2 is never given, and with one of
+ * under 257 bytes no byte is ever taken. The other causes of a UART byte are tested first, in their order,
+ * even for no bytes at all; a refused call has taken, length, reason and place 0 and leaves every other byte
+ * that was lent. A session's slice that is not 280 bytes long is an unsound session. */
 uint8_t oilthicket_take_bytes(uint8_t *session, size_t session_length,
                               const uint8_t *bytes, size_t bytes_length,
                               uint8_t *flash, size_t flash_length,
