@@ -5,6 +5,7 @@ pub mod Wire
 pub mod Locked
 pub mod Secrecy
 pub mod Runs
+pub mod Slices
 pub mod Made
 pub mod Opening
 pub mod Honest

@@ -5,6 +5,7 @@ ghost use Rattle.theorems.specs.Longest.{NoLongerCommand};
 ghost use Rattle.theorems.specs.Reasons.{ReasonsAndPlaces};
 ghost use Rattle.theorems.specs.Secrecy.{OpensExactly, StruckExactly, Demand3};
 ghost use Rattle.theorems.specs.Runs.{RunsOnce, Demand3OfCode};
+ghost use Rattle.theorems.specs.Slices.{SlicesAreRuns};
 ghost use Rattle.theorems.specs.Determined.{Determined};
 ghost use Rattle.theorems.specs.Failures.{OnlyNamedBytes, EraseAllOrNothing, NeverRead, ExactlyNamed, OnTheWire};
 
@@ -36,6 +37,11 @@ pub fn runs_once()
 // Demand 3 of the code: the same of whatever its calls hand back and leave, where each keeps its promise.
 pub fn demand_three_of_code()
     ensures { λ _. ⌜ Demand3OfCode ⌝ }
+{}
+
+// The call of a slice leaves the board that the calls of its bytes leave one by one, and their replies joined.
+pub fn slices_are_runs()
+    ensures { λ _. ⌜ SlicesAreRuns ⌝ }
 {}
 
 // Which inputs are an obeyed Access Unprotect: 0x92, and on UART its complement behind it, to an idle session in a call that is accepted.
