@@ -252,7 +252,8 @@ module _ (bytes buffer : List ℕ) (count : ℕ) (done : Taken) (m : Memories) (
       ≡ here (count + silent) (at + taken .length) buffer' (nackOf (joined done taken)) (stateOf (taken .session) n)
   turn-ends a =
       before
-      ∙ one-refused (length part) (getD rest silent 0) mid (count + silent) at buffer (nackOf done) (drop (suc silent) rest) (numbered ∙ ne-eqb (taken .number) 0 a)
+      ∙ one-refused (length part) (getD rest silent 0) mid (count + silent) at buffer (nackOf done) (drop (suc silent) rest)
+      (numbered ∙ ne-eqb (taken .number) 0 a)
       ∙ sym (λ k. here (count + silent) (at + leaves .count k) (replied k) (nacked k) (left-state k))
 
   -- where it was accepted, it goes on behind it
@@ -267,7 +268,8 @@ module _ (bytes buffer : List ℕ) (count : ℕ) (done : Taken) (m : Memories) (
       let e : count + suc silent ≡ count + silent + 1 = omega arith in
       let d = drop-drop (suc silent) count bytes ∙ ap (λ (z : ℕ). drop z bytes) e in
       before
-      ∙ one-taken (length part) (getD rest silent 0) mid (count + silent) at buffer (nackOf done) (drop (suc silent) rest) (numbered ∙ eq-eqb (taken .number) 0 a)
+      ∙ one-taken (length part) (getD rest silent 0) mid (count + silent) at buffer (nackOf done) (drop (suc silent) rest)
+      (numbered ∙ eq-eqb (taken .number) 0 a)
       ∙ (λ k. ends (count + silent + 1) (at + sym c k) (sym replied k) (sym nacked k) (r k) (d k) (sym left-state k))
 
 -- ---- the end
@@ -306,7 +308,8 @@ ends-leaves s m lent bs {r} e h whole =
 
 module _ (g : GivenBytes) (c : Cause) (ec : c ≡ sliceCause (g .state)) where
   -- a slice that is not refused is taken
-  pub slice-taken : {n : ℕ} {l : Left} → accepts c ≡ true → LeavesBytes (taking (length (g .buffer)) (g .bytes) (g .state)) (g .buffer) n l → TookBytes g n l
+  pub slice-taken : {n : ℕ} {l : Left} → accepts c ≡ true → LeavesBytes (taking (length (g .buffer)) (g .bytes) (g .state)) (g .buffer) n l
+      → TookBytes g n l
   unfolding sliceOutcome callBytes
   slice-taken h k = rw (← ec, h) k
 

@@ -59,4 +59,5 @@ Refusals = (g : Given) (l : Left) → Took g l → (l .result .number ≡ 0 → 
 
 -- so has the call of a slice, and it has taken no byte
 abbrev pub SliceRefusals : Type 0
-SliceRefusals = (g : GivenBytes) (n : ℕ) (l : Left) → TookBytes g n l → (l .result .number ≡ 0 → ⊥) → (n ≡ 0) × Unchanged (g .state) (g .buffer) l
+SliceRefusals =
+    (g : GivenBytes) (n : ℕ) (l : Left) → TookBytes g n l → (l .result .number ≡ 0 → ⊥) → (n ≡ 0) × Unchanged (g .state) (g .buffer) l

@@ -82,11 +82,13 @@ taking room bs p =
 unfoldable pub sliceCause : State → Cause
 sliceCause p = byteCause uartRoom p
 
+-- a refused one takes no byte
+abbrev pub noneTaken : State → SliceOutcome
+noneTaken p = record { count = 0; outcome = refused (sliceCause p) p }
+
 -- one call
 unfoldable pub callBytes : ℕ → List ℕ → State → SliceOutcome
-callBytes room bs p =
-    if accepts (sliceCause p) then taking room bs p
-    else record { count = 0; outcome = refused (sliceCause p) p }
+callBytes room bs p = if accepts (sliceCause p) then taking room bs p else noneTaken p
 
 -- ---- what the call promises
 

@@ -12,7 +12,7 @@ ghost use Rattle.memories.specs.Lent.{were, are};
 ghost use Rattle.boot.specs.Calls.{Byte, Framed};
 ghost use Rattle.boot.specs.Promise.{stateOf};
 ghost use Rattle.desk_lines.specs.Lines.{mostCharacters, areFields, fields, areFrame, frameWritten, kindOf};
-ghost use Rattle.desk_answers.specs.Answers.{deskRoom, made, replyOf, tells, whyOf, notes as Answers·notes, callsOf, obeyed, notice, answer};
+ghost use Rattle.desk_answers.specs.Answers.{deskRoom, tells, notes as Answers·notes, callsOf, obeyed, notice, answer};
 ghost use Rattle.desk_answers.specs.Promise.{Tells, Continues, noteNumbers, noticeRoom, answerRoom};
 use boot::Session;
 use desk_answers::ANSWERED;
@@ -69,7 +69,8 @@ fn tell_front(
     ensures told { λ r. ⌜ Continues (tells (map (Byte deskRoom) (drop (r .count) (now (bytes .entry)))) (stateOf (r .told .session) (are flash sram usd)))
         (r .told .end) (now (out .exit)) (tells (map (Byte deskRoom) (now (bytes .entry))) (stateOf (begun .session) (were flash sram usd)))
         (begun .end) (now (out .entry)) ⌝ }
-    ensures noted { λ r. ⌜ Continues (Answers·notes (map (Byte deskRoom) (drop (r .count) (now (bytes .entry)))) (stateOf (r .told .session) (are flash sram usd)))
+    ensures noted { λ r. ⌜ Continues
+        (Answers·notes (map (Byte deskRoom) (drop (r .count) (now (bytes .entry)))) (stateOf (r .told .session) (are flash sram usd)))
         (r .told .noted) (now (notes .exit)) (Answers·notes (map (Byte deskRoom) (now (bytes .entry))) (stateOf (begun .session) (were flash sram usd)))
         (begun .noted) (now (notes .entry)) ⌝ }
     ensures fits { λ r. ⌜ (r .told .end ≤ begun .end + deskRoom * fieldCharacters) × (r .told .noted ≤ begun .noted + noteNumbers) ⌝ }
@@ -162,7 +163,8 @@ fn tell_frame(
     requires { ⌜ begun .noted + length (now rest) ≤ length (now notes) ⌝ }
     ensures told { λ r. ⌜ Tells (tells (Framed deskRoom (frameWritten (now (rest .entry))) ∷ []) (stateOf (begun .session) (were flash sram usd)))
         (begun .end) (now (out .entry)) (r .end) (now (out .exit)) (stateOf (r .session) (are flash sram usd)) ⌝ }
-    ensures noted { λ r. ⌜ Tells (Answers·notes (Framed deskRoom (frameWritten (now (rest .entry))) ∷ []) (stateOf (begun .session) (were flash sram usd)))
+    ensures noted { λ r. ⌜ Tells
+        (Answers·notes (Framed deskRoom (frameWritten (now (rest .entry))) ∷ []) (stateOf (begun .session) (were flash sram usd)))
         (begun .noted) (now (notes .entry)) (r .noted) (now (notes .exit)) (stateOf (r .session) (are flash sram usd)) ⌝ }
     ensures fits { λ r. ⌜ (r .end ≤ begun .end + deskRoom * length (now (rest .entry))) × (r .noted ≤ begun .noted + length (now (rest .entry))) ⌝ }
 {

@@ -12,9 +12,9 @@ use Rattle.can.specs.Conversation as CC
 use Rattle.frames.specs.Frames.{classic, isFrame}
 use Rattle.boot.specs.Session.{sound}
 use Rattle.boot.specs.Causes.{accepts}
-use Rattle.boot.specs.Calls.{Input, Power, Byte, Framed, State, Outcome, causeFor, refused, call}
+use Rattle.boot.specs.Calls.{Input, Power, Byte, Framed, State, Outcome, causeFor, call}
 use Rattle.boot.specs.Promise.{left, Leaves}
-use Rattle.boot.specs.Slices.{asOne, taking, sliceCause, callBytes, GivenBytes, sliceOutcome}
+use Rattle.boot.specs.Slices.{asOne, taking, sliceCause, noneTaken, callBytes, GivenBytes, sliceOutcome}
 use Rattle.boot.specs.declared.Session.{Session}
 use Rattle.boot.specs.declared.Taken.{Taken}
 use Rattle.boot.proofs.Causes.{accepts-number, call-cause, refused-call, accepted-clear}
@@ -55,12 +55,12 @@ unfolding sliceOutcome callBytes asOne
 of-slice g = by-test (accepts (sliceCause (g .state))) refl
   where
     by-test : (b : Bool) → accepts (sliceCause (g .state)) ≡ b
-        → Of ((if b then taking (length (g .buffer)) (g .bytes) (g .state) else record { count = 0; outcome = refused (sliceCause (g .state)) (g .state) }) .outcome)
-        (g .state .session)
+        → Of ((if b then taking (length (g .buffer)) (g .bytes) (g .state) else noneTaken (g .state)) .outcome) (g .state .session)
     by-test true e = record { firm = λ a. slice-sound (g .state) e; stays = λ a. absurd (subst T a tt) }
     by-test false e = record { firm = λ a. absurd (subst T (sym (sym e ∙ a)) tt); stays = λ a. refl }
 
-module _ (o : Outcome) (room lent : List ℕ) (of : Of o (sessionIn lent)) {r : Taken} {m : Memories} {buffer : List ℕ} (t : Leaves o room (left r m buffer)) where
+module _ (o : Outcome) (room lent : List ℕ) (of : Of o (sessionIn lent)) {r : Taken} {m : Memories} {buffer : List ℕ}
+    (t : Leaves o room (left r m buffer)) where
   -- an outcome is of an accepted call where the number is 0
   numbered : accepts (o .cause) ≡ eqb (r .number) 0
   numbered = accepts-number (o .cause) ∙ ap (λ (n : ℕ). eqb n 0) (sym (t .number))

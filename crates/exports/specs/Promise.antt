@@ -39,6 +39,7 @@ pub record Takes (o : Outcome) (room lent : List ℕ) (number length reason plac
   pub held : sessionIn after ≡ o .state .session
 
 -- the call of a slice of bytes tells besides how many of them were taken
-pub record TakesBytes (g : GivenBytes) (lent : List ℕ) (number taken length reason place : ℕ) (after : List ℕ) (m : Memories) (buffer : List ℕ) : Type 0 where
+pub record TakesBytes (g : GivenBytes) (lent : List ℕ) (number taken length reason place : ℕ) (after : List ℕ) (m : Memories) (buffer : List ℕ)
+    : Type 0 where
   pub count : taken ≡ sliceOutcome g .count
   pub takes : Takes (sliceOutcome g .outcome) (g .buffer) lent number length reason place after m buffer

@@ -11,9 +11,9 @@ use Rattle.words.specs.Choice.{if_then_else_}
 use Rattle.words.specs.Lists.{join}
 use Rattle.uart.specs.Conversation.{uartRoom}
 use Rattle.boot.specs.Causes.{accepts}
-use Rattle.boot.specs.Calls.{State, Byte, Outcome, refused, call, outcomes, run}
+use Rattle.boot.specs.Calls.{State, Byte, Outcome, call, outcomes, run}
 use Rattle.boot.specs.Promise.{Left, outcome, Leaves}
-use Rattle.boot.specs.Slices.{oneByOne, afterBytes, howMany, asOne, taking, sliceCause, callBytes, GivenBytes, sliceOutcome, LeavesBytes}
+use Rattle.boot.specs.Slices.{oneByOne, afterBytes, howMany, asOne, taking, sliceCause, noneTaken, callBytes, GivenBytes, sliceOutcome, LeavesBytes}
 use Rattle.boot.proofs.Causes.{accepts-number}
 use Rattle.theorems.specs.Runs.{boardIn, Ran, endOf}
 use Rattle.theorems.specs.Slices.{replyIn, singly, SameAsSingly, SlicesAreRuns}
@@ -51,8 +51,7 @@ unfolding sliceOutcome callBytes asOne
 slices-are-runs g n l t z room e ls w = by-test (accepts (sliceCause (g .state))) refl t
   where
     by-test : (b : Bool) → accepts (sliceCause (g .state)) ≡ b
-        → LeavesBytes (if b then taking (length (g .buffer)) (g .bytes) (g .state) else record { count = 0; outcome = refused (sliceCause (g .state)) (g .state) })
-        (g .buffer) n l
+        → LeavesBytes (if b then taking (length (g .buffer)) (g .bytes) (g .state) else noneTaken (g .state)) (g .buffer) n l
         → SameAsSingly l g ls
     by-test true h t =
         let bs = take n (g .bytes) in

@@ -47,8 +47,11 @@ pub record Determined : Type 0 where
   -- and the four as they are exported
   pub exportedPowerOn : (lent : List ℕ) (l k : Powered) → Powers lent l → Powers lent k → l ≡ k
   pub exportedTakeByte : (lent : List ℕ) (b : ℕ) (m : Memories) (buffer : List ℕ) (l k : Handed)
-      → Hands (outcome (givenByte (sessionIn lent) b m buffer)) buffer lent l → Hands (outcome (givenByte (sessionIn lent) b m buffer)) buffer lent k → l ≡ k
+      → Hands (outcome (givenByte (sessionIn lent) b m buffer)) buffer lent l → Hands (outcome (givenByte (sessionIn lent) b m buffer)) buffer lent k
+      → l ≡ k
   pub exportedTakeFrame : (lent frame : List ℕ) (m : Memories) (buffer : List ℕ) (l k : Handed)
-      → Hands (outcome (givenFrame (sessionIn lent) frame m buffer)) buffer lent l → Hands (outcome (givenFrame (sessionIn lent) frame m buffer)) buffer lent k → l ≡ k
+      → Hands (outcome (givenFrame (sessionIn lent) frame m buffer)) buffer lent l
+      → Hands (outcome (givenFrame (sessionIn lent) frame m buffer)) buffer lent k → l ≡ k
   pub exportedTakeBytes : (lent bs : List ℕ) (m : Memories) (buffer : List ℕ) (i j : ℕ) (l k : Handed)
-      → HandsBytes (givenBytes (sessionIn lent) bs m buffer) lent i l → HandsBytes (givenBytes (sessionIn lent) bs m buffer) lent j k → (i ≡ j) × (l ≡ k)
+      → HandsBytes (givenBytes (sessionIn lent) bs m buffer) lent i l → HandsBytes (givenBytes (sessionIn lent) bs m buffer) lent j k
+      → (i ≡ j) × (l ≡ k)

@@ -18,7 +18,19 @@ use Rattle.desk_answers_code.proofs.tell_all.Statement.{statement}
 use Rattle.desk_answers_code.proofs.tell_all.Tie as tie
 
 abbrev Inv-loop : tie.InvT-loop
-Inv-loop bytes flash₀ sram₀ usd₀ out₀ notes₀ n told₀ i₀ flash sram usd out notes told i = (i ≤ n) × (told .end ≤ told₀ .end + deskRoom * 3 * i) × (told .noted ≤ told₀ .noted + 2 * i) × Continues (tells (map (Byte deskRoom) (drop i bytes)) (stateOf (told .session) (memories flash sram usd))) (told .end) out (tells (map (Byte deskRoom) bytes) (stateOf (told₀ .session) (memories flash₀ sram₀ usd₀))) (told₀ .end) out₀ × Continues (A.notes (map (Byte deskRoom) (drop i bytes)) (stateOf (told .session) (memories flash sram usd))) (told .noted) notes (A.notes (map (Byte deskRoom) bytes) (stateOf (told₀ .session) (memories flash₀ sram₀ usd₀))) (told₀ .noted) notes₀ × (length flash ≡ length flash₀) × (length sram ≡ length sram₀) × (length usd ≡ length usd₀) × (length out ≡ length out₀) × (length notes ≡ length notes₀)
+Inv-loop bytes flash₀ sram₀ usd₀ out₀ notes₀ n told₀ i₀ flash sram usd out notes told i =
+    (i ≤ n)
+    × (told .end ≤ told₀ .end + deskRoom * 3 * i)
+    × (told .noted ≤ told₀ .noted + 2 * i)
+    × Continues (tells (map (Byte deskRoom) (drop i bytes)) (stateOf (told .session) (memories flash sram usd))) (told .end) out
+    (tells (map (Byte deskRoom) bytes) (stateOf (told₀ .session) (memories flash₀ sram₀ usd₀))) (told₀ .end) out₀
+    × Continues (A.notes (map (Byte deskRoom) (drop i bytes)) (stateOf (told .session) (memories flash sram usd))) (told .noted) notes
+    (A.notes (map (Byte deskRoom) bytes) (stateOf (told₀ .session) (memories flash₀ sram₀ usd₀))) (told₀ .noted) notes₀
+    × (length flash ≡ length flash₀)
+    × (length sram ≡ length sram₀)
+    × (length usd ≡ length usd₀)
+    × (length out ≡ length out₀)
+    × (length notes ≡ length notes₀)
 
 abbrev μ-loop : tie.MeasureT-loop
 μ-loop bytes flash₀ sram₀ usd₀ out₀ notes₀ n told₀ i₀ flash sram usd out notes told i = n - i

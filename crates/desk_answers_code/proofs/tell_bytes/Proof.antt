@@ -14,7 +14,8 @@ use Rattle.desk_answers_code.proofs.tell_bytes.Statement.{statement}
 use Rattle.desk_answers_code.proofs.tell_bytes.Tie as tie
 
 -- the bytes at the front of the room are those that the fields write
-stand : (c : tie.After-bytes) → take (c .bytes .result) (c .bytes .last .1 .0) ≡ fields (c .before .before .before .before .before .before .before .before .args .rest .now)
+stand : (c : tie.After-bytes)
+    → take (c .bytes .result) (c .bytes .last .1 .0) ≡ fields (c .before .before .before .before .before .before .before .before .args .rest .now)
 stand c =
     let start = c .before .before .before .before .before .before .before .before in
     let rest = start .args .rest .now in

@@ -87,7 +87,8 @@ returns c =
         (
           rw e
               (one-told (made whyOf (Byte deskRoom (byte taken)) here) (notes others)
-              (told-as (front-told whyOf (λ b p. refl) (args .bytes .now) (silent taken) begun (k .within) (k .silent)) (args .begun .noted) (args .notes .now))
+              (told-as (front-told whyOf (λ b p. refl) (args .bytes .now) (silent taken) begun (k .within) (k .silent)) (args .begun .noted)
+              (args .notes .now))
               (input-noted (λ (n : ℕ). Byte n (byte taken)) (session taken) (before taken) lent refl (taken .take-front .result .taken) (after taken)
               (leaves taken .buffer) (k .took) (args .begun .noted) (noted .result) (args .notes .now) (noted .last .1 .1 .0)
               (noted .ensures .0))),

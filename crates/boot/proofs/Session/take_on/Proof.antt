@@ -102,7 +102,8 @@ kept c =
 
 -- what was left to take is here, where the byte behind the front was refused, and else is left behind it
 ended : (c : tie.After-take-front Inv-loop μ-loop) → (c .take-front .result .taken .number ≡ 0 → ⊥)
-    → leftAt (turn c) ≡ nothingLeft (back c) (joined (turn c .loop .done) (c .take-front .result .taken)) (turn c .loop .count + c .take-front .result .silent) (after c)
+    → leftAt (turn c)
+    ≡ nothingLeft (back c) (joined (turn c .loop .done) (c .take-front .result .taken)) (turn c .loop .count + c .take-front .result .silent) (after c)
 ended c =
     turn-ends (start (turn c) .args .bytes .now) (turn c .loop .buffer) (turn c .loop .count) (turn c .loop .done) (before c)
     (c .take-front .result .silent) (c .take-front .result .taken) (after c) (part c) (turn c .loop .inv .2)
@@ -170,7 +171,8 @@ loop-again c =
       ap (λ (t : Taken). t .number) (both .ensures) ∙ at .loop .inv .1,
       omega (arith, ap (λ (t : Taken). t .length) (both .ensures), fits f, kept f),
       at .loop .inv .3 ∙ went-on f (c .if1 .left)
-          ∙ ap (λ (t : Taken). leftOver (start at .args .bytes .now) (after f) (back f) t (at .loop .count + f .take-front .result .silent + 1)) (sym (both .ensures)),
+          ∙ ap (λ (t : Taken). leftOver (start at .args .bytes .now) (after f) (back f) t (at .loop .count + f .take-front .result .silent + 1))
+          (sym (both .ensures)),
       lengths f .0,
       lengths f .1,
       lengths f .2,

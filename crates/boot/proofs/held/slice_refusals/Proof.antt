@@ -4,8 +4,7 @@ use mathlib.Core.Bool.{Bool, true, false}
 use lib.ListN.{length}
 use Rattle.words.specs.Choice.{if_then_else_}
 use Rattle.boot.specs.Causes.{accepts}
-use Rattle.boot.specs.Calls.{refused}
-use Rattle.boot.specs.Slices.{asOne, taking, sliceCause, callBytes, sliceOutcome, LeavesBytes}
+use Rattle.boot.specs.Slices.{asOne, taking, sliceCause, noneTaken, callBytes, sliceOutcome, LeavesBytes}
 use Rattle.boot.specs.Refusals.{Unchanged, SliceRefusals}
 use Rattle.boot.proofs.held.slice_refusals.Statement.{statement}
 use Rattle.boot.proofs.held.slice_refusals.Tie as tie
@@ -15,8 +14,7 @@ unfolding sliceOutcome callBytes asOne
 nothing-changed g n l t k = by-test (accepts (sliceCause (g .state))) t
   where
     by-test : (b : Bool)
-        → LeavesBytes (if b then taking (length (g .buffer)) (g .bytes) (g .state) else record { count = 0; outcome = refused (sliceCause (g .state)) (g .state) })
-        (g .buffer) n l
+        → LeavesBytes (if b then taking (length (g .buffer)) (g .bytes) (g .state) else noneTaken (g .state)) (g .buffer) n l
         → (n ≡ 0) × Unchanged (g .state) (g .buffer) l
     by-test true t = absurd (k (t .leaves .number))
     by-test false t = (
