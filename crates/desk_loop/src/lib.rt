@@ -1,12 +1,12 @@
 // Reads a host's lines and writes the answers, over file descriptors: what is read and written is not proved, what is done with it is.
 ghost use mathlib.Core.Path.{_≡_};
-ghost use mathlib.Core.Bool.{true};
+ghost use mathlib.Core.Bool.{true, false};
 ghost use Prim.Native.Nat.{_+_, _^_, _≤_, _<_};
 ghost use lib.ListN.{length};
 ghost use Rattle.words.specs.Texts.{characters};
 ghost use Rattle.memories.specs.Lent.{held, were, are};
-ghost use Rattle.keeping.specs.Kept.{Kept, Begins};
-ghost use Rattle.desk_answers.specs.Desk.{keptCharacters};
+ghost use Rattle.keeping.specs.Kept.{Fits, Kept, Begins};
+ghost use Rattle.desk_answers.specs.Desk.{keptCharacters, inputEnds};
 ghost use Rattle.desk_hearing.specs.Promise.{deskOf};
 ghost use Rattle.desk_loop.specs.Turns.{readCharacters, outCharacters, Ready, Turns, LeftBy};
 use boot::Session;
@@ -48,7 +48,7 @@ fn room() -> [u8; OUT_CHARACTERS]
     [0; OUT_CHARACTERS]
 }
 
-// Reads once, has what came heard, keeps the memories and then writes the answers.
+// Reads once, has what came heard, be it nothing, keeps the memories and then writes the answers.
 fn turn(
     desk: Desk,
     name: &[u8],
@@ -63,30 +63,57 @@ fn turn(
 ) -> Turned
     requires { ⌜ Ready desk (now line) (now out) ⌝ }
     requires { ⌜ desk .lines + readCharacters < 2 ^ 64 ⌝ }
+    requires { ⌜ Fits (held flash sram usd) (now kept) ⌝ }
+    requires { ⌜ Kept (now name) (held flash sram usd) (now kept) ⌝ }
     ensures ready { λ r. ⌜ Ready (r .desk) (now (line .exit)) (now (out .exit)) ⌝ }
     ensures few { λ r. ⌜ r .desk .lines ≤ desk .lines + readCharacters ⌝ }
     ensures heard { λ r. ⌜ Turns (deskOf desk (now (line .entry)) (were flash sram usd)) (now (out .entry))
         (deskOf (r .desk) (now (line .exit)) (are flash sram usd)) (now (out .exit)) ⌝ }
-    ensures kept { λ r. ⌜ (r .going ≡ true → Kept (now (name .entry)) (are flash sram usd) (now (kept .exit))) ⌝ }
+    ensures going { λ r. ⌜ (r .going ≡ true → r .told ≡ true) ⌝ }
+    ensures kept { λ r. ⌜ (r .told ≡ true → Kept (now (name .entry)) (are flash sram usd) (now (kept .exit))) ⌝ }
 {
     let mut input = [0u8; READ_CHARACTERS];
     let got = libc::read(from, &mut input);
     let n = io::count(got, &input);
-    if n == 0 {
-        return Turned {
-            desk: desk,
-            going: false,
-            told: true,
-        };
-    }
     let mut here = hear(desk, &input[..n], line, flash, sram, usd, out);
     let end = here.end;
     here.end = 0;
     let told = tell(true, name, flash, sram, usd, kept, to, &out[..end]);
     Turned {
         desk: here,
-        going: told,
+        going: told & (0 < n),
         told: told,
+    }
+}
+
+// Answers a last line that has no LF, if all before it could be kept and answered, and hands back the desk that is left.
+fn get_up(
+    desk: Desk,
+    told: bool,
+    name: &[u8],
+    to: i32,
+    line: &mut [u8],
+    flash: &mut [u8],
+    sram: &mut [u8],
+    usd: &mut [u8],
+    out: &mut [u8],
+    kept: &mut [u8],
+) -> Turned
+    requires { ⌜ Ready desk (now line) (now out) ⌝ }
+    requires { ⌜ desk .lines + 1 < 2 ^ 64 ⌝ }
+    requires { ⌜ Fits (held flash sram usd) (now kept) ⌝ }
+    requires { ⌜ (told ≡ true → Kept (now name) (held flash sram usd) (now kept)) ⌝ }
+    ensures left { λ r. ⌜ deskOf (r .desk) (now (line .exit)) (are flash sram usd)
+        ≡ inputEnds (deskOf desk (now (line .entry)) (were flash sram usd)) .state ⌝ }
+    ensures untold { λ r. ⌜ (told ≡ false → r .told ≡ false) ⌝ }
+    ensures kept { λ r. ⌜ (r .told ≡ true → Kept (now (name .entry)) (are flash sram usd) (now (kept .exit))) ⌝ }
+{
+    let done = finish(desk, line, flash, sram, usd, out);
+    let end = done.end;
+    Turned {
+        desk: done,
+        going: false,
+        told: tell(told, name, flash, sram, usd, kept, to, &out[..end]),
     }
 }
 
@@ -107,6 +134,8 @@ fn sit(
     requires { ⌜ length (now line) ≡ keptCharacters ⌝ }
     requires { ⌜ outCharacters ≤ length (now out) ⌝ }
     requires { ⌜ Begins (now name) (held flash sram usd) ⌝ }
+    requires { ⌜ Fits (held flash sram usd) (now kept) ⌝ }
+    requires { ⌜ Kept (now name) (held flash sram usd) (now kept) ⌝ }
     ensures left { λ r. ⌜ LeftBy why (were flash sram usd) (deskOf (r .desk) (now (line .exit)) (are flash sram usd)) ⌝ }
     ensures kept { λ r. ⌜ (r .told ≡ true → Kept (now (name .entry)) (are flash sram usd) (now (kept .exit))) ⌝ }
 {
@@ -125,13 +154,7 @@ fn sit(
         told = turned.told;
         turns = left(turns, turned.going);
     }
-    let done = finish(desk, line, flash, sram, usd, out);
-    let end = done.end;
-    Turned {
-        desk: done,
-        going: false,
-        told: tell(told, name, flash, sram, usd, kept, to, &out[..end]),
-    }
+    get_up(desk, told, name, to, line, flash, sram, usd, out, kept)
 }
 
 // The program desk, asked for reasons or not: from the fresh board, or the memories that the file of a name holds, just powered, it reads lines until

@@ -2,6 +2,7 @@
 ghost use Prim.Native.Nat.{_+_, _≤_};
 ghost use lib.ListN.{length};
 ghost use Rattle.io.specs.Counts.{Counts};
+use libc::STDERR_FILENO;
 
 // How many characters a name has at most, and what is added to it while a file is written.
 pub const NAME: usize = 4096;
@@ -130,9 +131,18 @@ fn say_unmade(name: &[u8], part: &[u8]) {
     }
 }
 
+// Says that a name is too long to write its file.
+fn say_long(name: &[u8]) {
+    io::write_all(STDERR_FILENO, name);
+    io::write_all(STDERR_FILENO, b": the name has more than ");
+    io::print_decimal(STDERR_FILENO, NAME as u64);
+    io::write_all(STDERR_FILENO, b" characters\n");
+}
+
 // Writes the file of a name whole, or says why it cannot and leaves the name as it was.
 pub fn save(name: &[u8], bytes: &[u8]) -> bool {
     if NAME < name.len() {
+        say_long(name);
         return false;
     }
     let mut space = [0u8; NAME + PART];

@@ -1,22 +1,21 @@
 -- Memories and the bytes that they are, one behind the other.
 use mathlib.Core.Path.{_≡_, refl, sym, ap, subst, _∙_}
-use mathlib.Core.Bool.{Bool, true, false, not, _&&_}
+use mathlib.Core.Bool.{Bool, true, false, _&&_}
 use mathlib.Core.List.{List, _++_}
 use Prim.Native.Nat.{ℕ, _+_, _-_}
 use native.Mathlib.Omega.{arith}
 use lib.Dec.{T, eqb, eqb→eq}
 use lib.ListN.{length, take, drop, length-append}
 use lib.Seq.{take-at, drop-at, take-all, drop-append-le, take-append-le, take-add}
-use borrow.Author.Tests.{eq-eqb, lt-ltb, not-true, not-false}
-use Rattle.words.specs.Choice.{if_then_else_}
+use borrow.Author.Tests.{eq-eqb, lt-ltb}
 use Rattle.words.specs.Lists.{part}
 use Rattle.words.specs.Over.{put, newer}
 use Rattle.words.proofs.Over.{put-all, over-then}
 use Rattle.words.proofs.Slices.{length-part}
-use Rattle.words.proofs.Tests.{both-left, both-right, holds-true, chosen}
+use Rattle.words.proofs.Tests.{both-left, both-right, holds-true}
 use Rattle.board.specs.Board as B
 use Rattle.memories.specs.Memories.{Memories, memories, proper, freshMemories}
-use Rattle.keeping.specs.Kept.{usdAt, memoriesBytes, inBytes, memoriesIn, fitting, takenDown, broughtBack, named, Kept}
+use Rattle.keeping.specs.Kept.{usdAt, memoriesBytes, inBytes, memoriesIn, named, Fits, Kept}
 
 -- ---- lengths
 
@@ -44,11 +43,14 @@ are-proper m l = rw (
   eq-eqb (length (m .usd)) (B.usd .bytes) (l .usd),
 ) tt
 
--- memories and a room that fit have theirs
-pub lengths-fit : (m : Memories) (room : List ℕ) → T (fitting m room) → Lengths m × (length room ≡ memoriesBytes)
-lengths-fit m room t =
-    let r = eqb (length room) memoriesBytes in
-    (lengths m (both-left (proper m) r t), eqb→eq (length room) memoriesBytes (both-right (proper m) r t))
+-- memories for which there is room have theirs
+pub lengths-fit : {m : Memories} {room : List ℕ} → Fits m room → Lengths m
+lengths-fit f = record { flash = f .flash; sram = f .sram; usd = f .usd }
+
+-- others of the same lengths fit, too
+pub still-fits : {m n : Memories} {old room : List ℕ} → Fits m old → length (n .flash) ≡ length (m .flash)
+    → length (n .sram) ≡ length (m .sram) → length (n .usd) ≡ length (m .usd) → length room ≡ length old → Fits n room
+still-fits f p q r s = record { flash = p ∙ f .flash; sram = q ∙ f .sram; usd = r ∙ f .usd; room = s ∙ f .room }
 
 -- as many bytes as the memories have
 pub all-bytes : (m : Memories) → Lengths m → length (inBytes m) ≡ memoriesBytes
@@ -103,27 +105,6 @@ pub parts-held : (m : Memories) (room : List ℕ) → length room ≡ memoriesBy
 parts-held m room e p = sym (bytes-back room e) ∙ ap inBytes (sym p)
 
 -- ---- the code's steps
-
-module _ (m : Memories) (room : List ℕ) where
-  -- what a test of the lengths tells
-  pub fits : (t : Bool) → t ≡ fitting m room → not t ≡ false → Lengths m × (length room ≡ memoriesBytes)
-  fits t e n = lengths-fit m room (subst T (sym (not-false t n) ∙ e) tt)
-
-  pub stays : (t : Bool) → t ≡ fitting m room → not t ≡ true → room ≡ takenDown m room
-  unfolding takenDown
-  stays t e n = rw (← e, not-true t n) refl
-
-  pub stays-lent : (t : Bool) → t ≡ fitting m room → not t ≡ true → m ≡ broughtBack room m
-  unfolding broughtBack
-  stays-lent t e n = rw (← e, not-true t n) refl
-
-  pub taken-down : Lengths m → length room ≡ memoriesBytes → takenDown m room ≡ inBytes m
-  unfolding takenDown
-  taken-down l e = rw (holds-true (proper m) (are-proper m l), eq-eqb (length room) memoriesBytes e) refl
-
-  pub brought-back : Lengths m → length room ≡ memoriesBytes → broughtBack room m ≡ memoriesIn room
-  unfolding broughtBack
-  brought-back l e = rw (holds-true (proper m) (are-proper m l), eq-eqb (length room) memoriesBytes e) refl
 
 -- user system data reaches to the end of a room
 usd-part : (room : List ℕ) → length room ≡ memoriesBytes
@@ -194,21 +175,9 @@ unnamed name e = rw e refl
 pub is-named : (name : List ℕ) → (length name ≡ 0 → ⊥) → named name ≡ true
 is-named name n = lt-ltb 0 (length name) (omega (arith, n))
 
--- a room in which the memories were taken down holds them
-pub down-kept : (name : List ℕ) (m : Memories) (old room : List ℕ) → length room ≡ length old → room ≡ takenDown m old → Kept name m room
-down-kept name m old room e d t =
-    let f = lengths-fit m room (both-right (named name) (fitting m room) t) in
-    d ∙ taken-down m old (f .0) (sym e ∙ f .1)
-
 -- where no file is named, a room need hold nothing
 pub none-kept : (name : List ℕ) (m : Memories) (room : List ℕ) → length name ≡ 0 → Kept name m room
-none-kept name m room e t = absurd (subst T (unnamed name e) (both-left (named name) (fitting m room) t))
-
--- what `keep` leaves holds the memories
-pub now-kept : (name : List ℕ) (m : Memories) (old room : List ℕ) → length room ≡ length old
-    → room ≡ (if named name then takenDown m old else old) → Kept name m room
-now-kept name m old room e d t =
-    down-kept name m old room e (d ∙ chosen (named name) (takenDown m old) old (both-left (named name) (fitting m room) t)) t
+none-kept name m room e t = absurd (subst T (unnamed name e) t)
 
 -- three memories that are each the fresh board's
 pub all-fresh : {flash sram usd : List ℕ} → flash ≡ freshMemories .flash → sram ≡ freshMemories .sram → usd ≡ freshMemories .usd

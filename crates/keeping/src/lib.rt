@@ -8,9 +8,9 @@ pub mod turns;
 ghost use mathlib.Core.Path.{_≡_};
 ghost use mathlib.Core.Bool.{true, false};
 ghost use lib.ListN.{length};
-ghost use Rattle.words.specs.Choice.{if_then_else_};
-ghost use Rattle.memories.specs.Lent.{were, are};
-ghost use Rattle.keeping.specs.Kept.{named, takenDown, Kept};
+ghost use Prim.Native.Nat.{_+_};
+ghost use Rattle.memories.specs.Lent.{held, were, are};
+ghost use Rattle.keeping.specs.Kept.{memoriesBytes, inBytes, memoriesIn, named, Fits, Kept};
 use libc::STDERR_FILENO;
 use room::MEMORIES_BYTES;
 use room::bring_back;
@@ -18,7 +18,7 @@ use room::take_down;
 
 // Room for the bytes of a file, and a byte more, which tells that it is longer.
 fn file_room() -> [u8; MEMORIES_BYTES + 1]
-    ensures { λ r. ⌜ 41025 ≡ length r ⌝ }
+    ensures { λ r. ⌜ memoriesBytes + 1 ≡ length r ⌝ }
 {
     [0; MEMORIES_BYTES + 1]
 }
@@ -33,20 +33,35 @@ fn say_length(name: &[u8], length: usize) {
     } else {
         io::print_decimal(STDERR_FILENO, length as u64);
     }
-    io::write_all(STDERR_FILENO, b" bytes, and a board's memories are 41024\n");
+    io::write_all(STDERR_FILENO, b" bytes, and a board's memories are ");
+    io::print_decimal(STDERR_FILENO, MEMORIES_BYTES as u64);
+    io::write_all(STDERR_FILENO, b"\n");
 }
 
 // Makes the file of a name of the memories.
 fn make(name: &[u8], flash: &[u8], sram: &[u8], usd: &[u8], kept: &mut [u8]) -> bool
-    ensures { λ _. ⌜ now (kept .exit) ≡ takenDown (were flash sram usd) (now (kept .entry)) ⌝ }
+    requires { ⌜ Fits (held flash sram usd) (now kept) ⌝ }
+    ensures { λ _. ⌜ now (kept .exit) ≡ inBytes (were flash sram usd) ⌝ }
 {
     take_down(flash, sram, usd, kept);
     files::save(name, kept)
 }
 
+// Brings the memories back that the bytes of a file are, and takes these down.
+fn restore(bytes: &[u8], flash: &mut [u8], sram: &mut [u8], usd: &mut [u8], kept: &mut [u8])
+    requires { ⌜ length (now bytes) ≡ memoriesBytes ⌝ }
+    requires { ⌜ Fits (held flash sram usd) (now kept) ⌝ }
+    ensures back { λ _. ⌜ are flash sram usd ≡ memoriesIn (now (bytes .entry)) ⌝ }
+    ensures kept { λ _. ⌜ now (kept .exit) ≡ now (bytes .entry) ⌝ }
+{
+    bring_back(bytes, flash, sram, usd);
+    words::copy(kept, 0, bytes, 0, MEMORIES_BYTES);
+}
+
 // Brings the memories back that the file of a name holds, or says why it cannot.
 fn go_on(name: &[u8], flash: &mut [u8], sram: &mut [u8], usd: &mut [u8], kept: &mut [u8]) -> bool
-    ensures kept { λ r. ⌜ (r ≡ true → now (kept .exit) ≡ takenDown (are flash sram usd) (now (kept .entry))) ⌝ }
+    requires { ⌜ Fits (held flash sram usd) (now kept) ⌝ }
+    ensures kept { λ r. ⌜ (r ≡ true → now (kept .exit) ≡ inBytes (are flash sram usd)) ⌝ }
     ensures refused { λ r. ⌜ (r ≡ false → are flash sram usd ≡ were flash sram usd) ⌝ }
 {
     let mut bytes = file_room();
@@ -59,8 +74,7 @@ fn go_on(name: &[u8], flash: &mut [u8], sram: &mut [u8], usd: &mut [u8], kept: &
         say_length(name, n);
         return false;
     }
-    bring_back(&bytes[..n], flash, sram, usd);
-    take_down(flash, sram, usd, kept);
+    restore(&bytes[..n], flash, sram, usd, kept);
     true
 }
 
@@ -73,12 +87,13 @@ pub fn begin(
     usd: &mut [u8],
     kept: &mut [u8],
 ) -> bool
-    ensures unnamed { λ r. ⌜ (named (now (name .entry)) ≡ false → are flash sram usd ≡ were flash sram usd) ⌝ }
+    requires { ⌜ Fits (held flash sram usd) (now kept) ⌝ }
+    ensures unnamed { λ r. ⌜ (named (now (name .entry)) ≡ false → (r ≡ true) × (are flash sram usd ≡ were flash sram usd)) ⌝ }
     ensures refused { λ r. ⌜ (r ≡ false → are flash sram usd ≡ were flash sram usd) ⌝ }
     ensures kept { λ r. ⌜ (r ≡ true → Kept (now (name .entry)) (are flash sram usd) (now (kept .exit))) ⌝ }
 {
     if name.len() == 0 {
-        return true;
+        return true; // with the lent memories
     }
     let missing = files::is_missing(name);
     if missing {
@@ -88,10 +103,11 @@ pub fn begin(
     }
 }
 
-// Keeps the memories in the file of a name, where they are not what was kept last, or says why it cannot; without a name it does nothing.
+// Keeps the memories in the file of a name, where they are not what was kept last, or says why it cannot; without a name it does nothing. Where it
+// cannot, the room holds them nevertheless, and would tell the next call that nothing changed: so behind a failure nothing may be answered.
 pub fn keep(name: &[u8], flash: &[u8], sram: &[u8], usd: &[u8], kept: &mut [u8]) -> bool
-    ensures kept { λ r. ⌜ (r ≡ true
-        → now (kept .exit) ≡ (if named (now (name .entry)) then takenDown (were flash sram usd) (now (kept .entry)) else now (kept .entry))) ⌝ }
+    requires { ⌜ Fits (held flash sram usd) (now kept) ⌝ }
+    ensures kept { λ r. ⌜ (r ≡ true → Kept (now (name .entry)) (were flash sram usd) (now (kept .exit))) ⌝ }
     ensures same { λ r. ⌜ (now (kept .exit) ≡ now (kept .entry) → r ≡ true) ⌝ }
 {
     if name.len() == 0 {
@@ -105,6 +121,21 @@ pub fn keep(name: &[u8], flash: &[u8], sram: &[u8], usd: &[u8], kept: &mut [u8])
     }
 }
 
+// Writes what is to be answered, once the memories are kept: only for that they are lent.
+fn answer(
+    name: &[u8],
+    flash: &[u8],
+    sram: &[u8],
+    usd: &[u8],
+    kept: &[u8],
+    to: i32,
+    text: &[u8],
+) -> bool
+    requires { ⌜ Kept (now name) (held flash sram usd) (now kept) ⌝ }
+{
+    io::write_all(to, text)
+}
+
 // Keeps the memories and then writes what is to be answered, if all before it could be.
 pub fn tell(
     told: bool,
@@ -116,11 +147,17 @@ pub fn tell(
     to: i32,
     text: &[u8],
 ) -> bool
-    ensures { λ r. ⌜ (r ≡ true → Kept (now (name .entry)) (were flash sram usd) (now (kept .exit))) ⌝ }
+    requires { ⌜ Fits (held flash sram usd) (now kept) ⌝ }
+    ensures untold { λ r. ⌜ (told ≡ false → r ≡ false) ⌝ }
+    ensures kept { λ r. ⌜ (r ≡ true → Kept (now (name .entry)) (were flash sram usd) (now (kept .exit))) ⌝ }
 {
     if !told {
         return false;
     }
     let held = keep(name, flash, sram, usd, kept);
-    if held { io::write_all(to, text) } else { false }
+    if held {
+        answer(name, flash, sram, usd, kept, to, text)
+    } else {
+        false
+    }
 }

@@ -1,10 +1,9 @@
 // A board's memories, taken down in a room one behind the other and brought back from it.
 ghost use mathlib.Core.Path.{_≡_};
 ghost use mathlib.Core.Bool.{true, false};
-ghost use lib.Dec.{T};
 ghost use lib.ListN.{length};
 ghost use Rattle.memories.specs.Lent.{held, were, are};
-ghost use Rattle.keeping.specs.Kept.{memoriesBytes, inBytes, fitting, takenDown, broughtBack};
+ghost use Rattle.keeping.specs.Kept.{memoriesBytes, inBytes, memoriesIn, Fits};
 use board::Board;
 
 // Where SRAM and user system data begin, and how many bytes the memories are.
@@ -21,16 +20,9 @@ pub fn empty() -> [u8; MEMORIES_BYTES]
     [0; MEMORIES_BYTES]
 }
 
-// Whether memories and a room have their lengths.
-fn fit(flash: &[u8], sram: &[u8], usd: &[u8], room: &[u8]) -> bool
-    ensures { λ r. ⌜ r ≡ fitting (were flash sram usd) (now (room .entry)) ⌝ }
-{
-    boot::take::lengths_right(flash.len(), sram.len(), usd.len()) & (room.len() == MEMORIES_BYTES)
-}
-
 // Whether a room holds the memories.
 fn holds(flash: &[u8], sram: &[u8], usd: &[u8], room: &[u8]) -> bool
-    requires { ⌜ fitting (held flash sram usd) (now room) ≡ true ⌝ }
+    requires { ⌜ Fits (held flash sram usd) (now room) ⌝ }
     ensures held { λ r. ⌜ (r ≡ true → now (room .entry) ≡ inBytes (were flash sram usd)) ⌝ }
     ensures only { λ r. ⌜ (now (room .entry) ≡ inBytes (were flash sram usd) → r ≡ true) ⌝ }
 {
@@ -42,14 +34,11 @@ fn holds(flash: &[u8], sram: &[u8], usd: &[u8], room: &[u8]) -> bool
 
 // Takes the memories down, and tells whether the room then holds something else than before.
 pub fn take_down(flash: &[u8], sram: &[u8], usd: &[u8], room: &mut [u8]) -> bool
-    ensures room { λ _. ⌜ now (room .exit) ≡ takenDown (were flash sram usd) (now (room .entry)) ⌝ }
+    requires { ⌜ Fits (held flash sram usd) (now room) ⌝ }
+    ensures room { λ _. ⌜ now (room .exit) ≡ inBytes (were flash sram usd) ⌝ }
     ensures same { λ r. ⌜ (r ≡ false → now (room .exit) ≡ now (room .entry)) ⌝ }
     ensures other { λ r. ⌜ (now (room .exit) ≡ now (room .entry) → r ≡ false) ⌝ }
 {
-    let fits = fit(flash, sram, usd, room);
-    if !fits {
-        return false;
-    }
     let held = holds(flash, sram, usd, room);
     if held {
         return false;
@@ -62,12 +51,9 @@ pub fn take_down(flash: &[u8], sram: &[u8], usd: &[u8], room: &mut [u8]) -> bool
 
 // Brings the memories back that a room holds.
 pub fn bring_back(room: &[u8], flash: &mut [u8], sram: &mut [u8], usd: &mut [u8])
-    ensures { λ _. ⌜ are flash sram usd ≡ broughtBack (now (room .entry)) (were flash sram usd) ⌝ }
+    requires { ⌜ Fits (held flash sram usd) (now room) ⌝ }
+    ensures { λ _. ⌜ are flash sram usd ≡ memoriesIn (now (room .entry)) ⌝ }
 {
-    let fits = fit(flash, sram, usd, room);
-    if !fits {
-        return;
-    }
     words::copy(flash, 0, room, 0, Board::FLASH_BYTES);
     words::copy(sram, 0, room, SRAM_AT, Board::SRAM_BYTES);
     words::copy(usd, 0, room, USD_AT, Board::USD_BYTES);

@@ -1,13 +1,16 @@
 // How often a program reads: proved code has to end, and nothing says that an input does.
+ghost use mathlib.Core.Path.{_≡_};
+ghost use mathlib.Core.Bool.{true};
 ghost use Prim.Native.Nat.{_<_};
 
-// How many reads are made at most, a number that no run uses up.
+// How many reads are made at most, 2^51: of 4,096 bytes each they bring at most 2^63, so that a count of lines stays below 2^64; no run uses them up.
 pub const MOST: u64 = 0x0008_0000_0000_0000;
 
 // How many reads may still be made: none where there was nothing to read.
 pub fn left(turns: u64, going: bool) -> u64
     requires { ⌜ 0 < turns ⌝ }
-    ensures { λ r. ⌜ r < turns ⌝ }
+    ensures fewer { λ r. ⌜ r < turns ⌝ }
+    ensures going { λ r. ⌜ (0 < r → going ≡ true) ⌝ }
 {
     if going { turns - 1 } else { 0 }
 }

@@ -9,7 +9,7 @@ ghost use Prim.Native.Nat.{_≤_};
 ghost use lib.ListN.{length};
 ghost use Rattle.words.specs.Texts.{characters};
 ghost use Rattle.memories.specs.Lent.{held, were, are};
-ghost use Rattle.keeping.specs.Kept.{Kept, Begins};
+ghost use Rattle.keeping.specs.Kept.{Fits, Kept, Begins};
 ghost use Rattle.boot.specs.Promise.{stateOf};
 ghost use Rattle.port_loop.specs.Turns.{outBytes, Turns, LeftBy};
 use boot::Session;
@@ -26,10 +26,11 @@ const READ_BYTES: usize = 4096;
 // The room for the replies to one read, whatever it is.
 const OUT_BYTES: usize = uart::ROOM * READ_BYTES;
 
-// The session after a read, and whether there may be more to read: there was something, and it could be kept and answered.
+// The session after a read, whether there may be more to read, and whether all that was to be kept and answered could be.
 pub struct Turned {
     pub session: Session,
     pub going: bool,
+    pub told: bool,
 }
 
 // Whether an argument asks for ST's dialect.
@@ -46,7 +47,7 @@ fn room() -> [u8; OUT_BYTES]
     [0; OUT_BYTES]
 }
 
-// Reads once, has what came heard, keeps the memories and then writes what is said.
+// Reads once, has what came heard, be it nothing, keeps the memories and then writes what is said.
 fn turn(
     session: Session,
     st: bool,
@@ -60,30 +61,28 @@ fn turn(
     kept: &mut [u8],
 ) -> Turned
     requires { ⌜ outBytes ≤ length (now out) ⌝ }
+    requires { ⌜ Fits (held flash sram usd) (now kept) ⌝ }
+    requires { ⌜ Kept (now name) (held flash sram usd) (now kept) ⌝ }
     ensures heard { λ r. ⌜ Turns st (stateOf session (were flash sram usd)) (now (out .entry))
         (stateOf (r .session) (are flash sram usd)) (now (out .exit)) ⌝ }
-    ensures kept { λ r. ⌜ (r .going ≡ true → Kept (now (name .entry)) (are flash sram usd) (now (kept .exit))) ⌝ }
+    ensures going { λ r. ⌜ (r .going ≡ true → r .told ≡ true) ⌝ }
+    ensures kept { λ r. ⌜ (r .told ≡ true → Kept (now (name .entry)) (are flash sram usd) (now (kept .exit))) ⌝ }
 {
     let mut input = [0u8; READ_BYTES];
     let got = libc::read(from, &mut input);
     let n = io::count(got, &input);
-    if n == 0 {
-        return Turned {
-            session: session,
-            going: false,
-        };
-    }
     let heard = hear(session, st, &input[..n], flash, sram, usd, out);
     let next = heard.session;
     let end = heard.length;
     let told = tell(true, name, flash, sram, usd, kept, to, &out[..end]);
     Turned {
         session: next,
-        going: told,
+        going: told & (0 < n),
+        told: told,
     }
 }
 
-// Reads until the input ends, or something could not be kept or written, and hands back the session that is left.
+// Reads until the input ends, or something could not be kept or written, and hands back the session that is left, and whether all could be.
 fn sit(
     st: bool,
     name: &[u8],
@@ -94,20 +93,29 @@ fn sit(
     usd: &mut [u8],
     out: &mut [u8],
     kept: &mut [u8],
-) -> Session
+) -> Turned
     requires { ⌜ outBytes ≤ length (now out) ⌝ }
     requires { ⌜ Begins (now name) (held flash sram usd) ⌝ }
-    ensures { λ r. ⌜ LeftBy (were flash sram usd) (stateOf r (are flash sram usd)) ⌝ }
+    requires { ⌜ Fits (held flash sram usd) (now kept) ⌝ }
+    requires { ⌜ Kept (now name) (held flash sram usd) (now kept) ⌝ }
+    ensures left { λ r. ⌜ LeftBy (were flash sram usd) (stateOf (r .session) (are flash sram usd)) ⌝ }
+    ensures kept { λ r. ⌜ (r .told ≡ true → Kept (now (name .entry)) (are flash sram usd) (now (kept .exit))) ⌝ }
 {
     let mut session = Session::power_on();
+    let mut told = true;
     let mut turns = MOST;
     while 0 < turns {
         let turned = turn(session, st, name, from, to, flash, sram, usd, out, kept);
         let next = turned.session;
         session = next;
+        told = turned.told;
         turns = left(turns, turned.going);
     }
-    session
+    Turned {
+        session,
+        going: false,
+        told,
+    }
 }
 
 // The program port, in ST's dialect or not: from the fresh board, or the memories that the file of a name holds, just powered, it reads bytes until they

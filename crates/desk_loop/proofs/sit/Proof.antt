@@ -1,11 +1,13 @@
--- Between two reads all is ready, and each read uses up one of those that may be made.
+-- Between two reads all is ready, what was heard is kept, and each read uses up one of those that may be made.
 use borrow.Author.Needs.{needs}
 use native.Mathlib.Omega.{arith}
-use mathlib.Core.Path.{_≡_, refl, sym, _∙_}
-use Prim.Native.Nat.{_≤_, _+_, _*_, _^_}
+use mathlib.Core.Path.{_≡_, refl, _∙_}
+use mathlib.Core.Bool.{true}
+use Prim.Native.Nat.{_≤_, _<_, _+_, _*_, _^_}
 use lib.ListN.{length}
-use lib.Seq.{length-take-le}
 use Rattle.memories.specs.Memories.{memories}
+use Rattle.keeping.specs.Kept.{Kept}
+use Rattle.keeping.proofs.Rooms.{still-fits}
 use Rattle.desk_hearing.specs.Promise.{deskOf}
 use Rattle.desk_loop.specs.Turns.{readCharacters, Ready, HasHeard}
 use Rattle.desk_loop.proofs.Hearing.{sits-down, one-more, gets-up}
@@ -23,16 +25,11 @@ Inv-loop why name from to line₀ flash₀ sram₀ usd₀ out₀ kept₀ desk₀
     × (length out ≡ length out₀)
     × (length kept ≡ length kept₀)
     × HasHeard why (memories flash₀ sram₀ usd₀) (deskOf desk line (memories flash sram usd))
+    × (told ≡ true → Kept name (memories flash sram usd) kept)
+    × (0 < turns → told ≡ true)
 
 abbrev μ-loop : tie.MeasureT-loop
 μ-loop why name from to line₀ flash₀ sram₀ usd₀ out₀ kept₀ desk₀ told₀ turns₀ line flash sram usd out kept desk told turns = turns
-
--- the end of the input, and the turn before it that was not made
-abbrev ended : tie.After-tell Inv-loop μ-loop → tie.After-finish Inv-loop μ-loop
-ended c = c .before .before .before .before .before .before .before .before .before .before .before .before .before .before
-
-abbrev last : tie.After-finish Inv-loop μ-loop → tie.At-loop Inv-loop μ-loop
-last c = c .before .before .before .before .before .before .before
 
 loop-holds : tie.Need-loop-holds Inv-loop μ-loop
 loop-holds c =
@@ -46,51 +43,85 @@ loop-holds c =
       refl,
       refl,
       sits-down (start .args .why) _ (start .args .line .now) _ (c .power-on .ensures .session),
+      (λ _. start .pre .1 .1 .1 .1),
+      (λ _. refl),
     )
 
 turn-requires : tie.Need-turn-requires Inv-loop μ-loop
 turn-requires c κs =
     let at-loop = c .before .before .before .before .before .before .before in
-    (at-loop .loop .inv .0, omega (arith, at-loop .loop .inv .1))
+    let start = at-loop .before .before .before .before .before .before .before .before .before in
+    let i = at-loop .loop .inv in
+    (i .0, (omega (arith, i .1), (still-fits (start .pre .1 .1 .1 .0) (i .3) (i .4) (i .5) (i .7), i .9 (i .10 (omega arith)))))
 
 loop-again : tie.Need-loop-again Inv-loop μ-loop
 loop-again c =
     let after-turn = c .before .before .before .before .before .before .before .before .before .before .before .before .before .before in
     let at-loop = after-turn .before .before .before .before .before .before .before .before in
-    let k = after-turn .turn .kept in (
-      after-turn .turn .ensures .0,
-      omega (arith, after-turn .turn .ensures .1 .0, c .left .ensures, at-loop .loop .inv .1),
-      k .1 .1 .1 .1 .0 ∙ at-loop .loop .inv .2,
-      k .1 .1 .1 .1 .1 .0 ∙ at-loop .loop .inv .3,
-      k .1 .1 .1 .1 .1 .1 .0 ∙ at-loop .loop .inv .4,
-      k .1 .1 .1 .1 .1 .1 .1 .0 ∙ at-loop .loop .inv .5,
-      k .1 .1 .1 .1 .1 .1 .1 .1 .0 ∙ at-loop .loop .inv .6,
-      k .1 .1 .1 .1 .1 .1 .1 .1 .1 .0 ∙ at-loop .loop .inv .7,
-      one-more (at-loop .loop .inv .8) (after-turn .turn .ensures .1 .1 .0),
+    let i = at-loop .loop .inv in
+    let k = after-turn .turn .kept in
+    let e = after-turn .turn .ensures in (
+      e .0,
+      omega (arith, e .1 .0, c .left .ensures .0, i .1),
+      k .1 .1 .1 .1 .0 ∙ i .2,
+      k .1 .1 .1 .1 .1 .0 ∙ i .3,
+      k .1 .1 .1 .1 .1 .1 .0 ∙ i .4,
+      k .1 .1 .1 .1 .1 .1 .1 .0 ∙ i .5,
+      k .1 .1 .1 .1 .1 .1 .1 .1 .0 ∙ i .6,
+      k .1 .1 .1 .1 .1 .1 .1 .1 .1 .0 ∙ i .7,
+      one-more (i .8) (e .1 .1 .0),
+      e .1 .1 .1 .1,
+      (λ p. e .1 .1 .1 .0 (c .left .ensures .1 p)),
     )
 
-finish-requires : tie.Need-finish-requires Inv-loop μ-loop
-finish-requires c κs =
-    let at-loop = c .before .before .before .before .before .before in
-    let r = at-loop .loop .inv .0 in
-    (omega (arith, r .room, r .kept), (omega (arith, at-loop .loop .inv .1), omega (arith, r .kept, r .written, r .answers)))
+get-up-requires : tie.Need-get-up-requires Inv-loop μ-loop
+get-up-requires c κs =
+    let at-loop = c .before .before .before .before .before .before .before in
+    let start = at-loop .before .before .before .before .before .before .before .before .before in
+    let i = at-loop .loop .inv in
+    (i .0, (omega (arith, i .1), (still-fits (start .pre .1 .1 .1 .0) (i .3) (i .4) (i .5) (i .7), i .9)))
 
-slice-reshare-prefix-tell : tie.Need-slice-reshare-prefix-tell Inv-loop μ-loop
-slice-reshare-prefix-tell c =
-    let after-finish = c .before .before .before .before .before .before .before .before .before .before .before .before in
-    omega (arith, after-finish .finish .ensures .1, after-finish .finish .kept .1 .1 .1 .1 .1 .0)
+same-length : tie.Need-same-length Inv-loop μ-loop
+same-length c =
+    let after-get-up = c .before .before .before .before .before .before .before .before .before .before .before .before in
+    let at-loop = after-get-up .before .before .before .before .before .before .before .before in
+    after-get-up .get-up .kept .1 .1 .1 .1 .0 ∙ at-loop .loop .inv .2
 
-slice-aggregate-tell : tie.Need-slice-aggregate-tell Inv-loop μ-loop
-slice-aggregate-tell c =
-    let after-finish = c .before .before .before .before .before .before .before .before .before .before .before .before .before in
-    sym (length-take-le (after-finish .finish .result .end) (after-finish .finish .last .1 .1 .1 .1 .1 .0)
-    (omega (arith, after-finish .finish .ensures .1, after-finish .finish .kept .1 .1 .1 .1 .1 .0)))
+same-length-2 : tie.Need-same-length-2 Inv-loop μ-loop
+same-length-2 c =
+    let after-get-up = c .before .before .before .before .before .before .before .before .before .before .before .before in
+    let at-loop = after-get-up .before .before .before .before .before .before .before .before in
+    after-get-up .get-up .kept .1 .1 .1 .1 .1 .0 ∙ at-loop .loop .inv .3
+
+same-length-3 : tie.Need-same-length-3 Inv-loop μ-loop
+same-length-3 c =
+    let after-get-up = c .before .before .before .before .before .before .before .before .before .before .before .before in
+    let at-loop = after-get-up .before .before .before .before .before .before .before .before in
+    after-get-up .get-up .kept .1 .1 .1 .1 .1 .1 .0 ∙ at-loop .loop .inv .4
+
+same-length-4 : tie.Need-same-length-4 Inv-loop μ-loop
+same-length-4 c =
+    let after-get-up = c .before .before .before .before .before .before .before .before .before .before .before .before in
+    let at-loop = after-get-up .before .before .before .before .before .before .before .before in
+    after-get-up .get-up .kept .1 .1 .1 .1 .1 .1 .1 .0 ∙ at-loop .loop .inv .5
+
+same-length-5 : tie.Need-same-length-5 Inv-loop μ-loop
+same-length-5 c =
+    let after-get-up = c .before .before .before .before .before .before .before .before .before .before .before .before in
+    let at-loop = after-get-up .before .before .before .before .before .before .before .before in
+    after-get-up .get-up .kept .1 .1 .1 .1 .1 .1 .1 .1 .0 ∙ at-loop .loop .inv .6
+
+same-length-6 : tie.Need-same-length-6 Inv-loop μ-loop
+same-length-6 c =
+    let after-get-up = c .before .before .before .before .before .before .before .before .before .before .before .before in
+    let at-loop = after-get-up .before .before .before .before .before .before .before .before in
+    after-get-up .get-up .kept .1 .1 .1 .1 .1 .1 .1 .1 .1 .0 ∙ at-loop .loop .inv .7
 
 returns : tie.Need-returns Inv-loop μ-loop
 returns c =
-    let after-tell = c .before .before in
-    let finished = ended after-tell in
-    (gets-up (last finished .loop .inv .8) (finished .finish .ensures .0 .state), after-tell .tell .ensures)
+    let after-get-up = c .before .before .before .before .before .before .before .before .before .before .before .before in
+    let at-loop = after-get-up .before .before .before .before .before .before .before .before in
+    (gets-up (at-loop .loop .inv .8) (after-get-up .get-up .ensures .0), after-get-up .get-up .ensures .1 .1)
 
 pub sit-spec : {M : Type 1} → statement M
 sit-spec =
@@ -102,16 +133,13 @@ sit-spec =
     loop-holds
     turn-requires
     (λ c κs. omega arith)
-    (λ c. omega (arith, c .left .ensures))
+    (λ c. omega (arith, c .left .ensures .0))
     loop-again
-    finish-requires
-    slice-reshare-prefix-tell
-    slice-aggregate-tell
-    (λ c κs. search needs)
-    (λ c. last (ended (c .before .before)) .loop .inv .2)
-    (λ c. let finished = ended (c .before .before) in finished .finish .kept .1 .1 .0 ∙ last finished .loop .inv .3)
-    (λ c. let finished = ended (c .before .before) in finished .finish .kept .1 .1 .1 .0 ∙ last finished .loop .inv .4)
-    (λ c. let finished = ended (c .before .before) in finished .finish .kept .1 .1 .1 .1 .0 ∙ last finished .loop .inv .5)
-    (λ c. let finished = ended (c .before .before) in finished .finish .kept .1 .1 .1 .1 .1 .0 ∙ last finished .loop .inv .6)
-    (λ c. let after-tell = c .before .before in omega (arith, after-tell .tell .kept, last (ended after-tell) .loop .inv .7))
+    get-up-requires
+    same-length
+    same-length-2
+    same-length-3
+    same-length-4
+    same-length-5
+    same-length-6
     returns)

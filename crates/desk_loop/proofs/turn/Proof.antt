@@ -1,35 +1,15 @@
--- What was read is heard at once, for there is room for all its answers; where nothing was, nothing is heard.
+-- What was read is heard at once, for there is room for all its answers, and they are written behind the keeping.
 use borrow.Author.Needs.{needs}
 use native.Mathlib.Omega.{arith}
 use mathlib.Core.Path.{refl, sym, subst, _∙_}
-use mathlib.Core.List.{[]}
 use lib.Dec.{T}
 use lib.ListN.{take, length-take}
 use lib.Seq.{length-take-le}
-use Rattle.words.specs.Over.{newer}
-use Rattle.words.proofs.Over.{over-none}
-use Rattle.desk_answers.specs.Desk.{hears}
+use Rattle.words.proofs.Tests.{both-left, holds-true}
+use Rattle.keeping.proofs.Rooms.{still-fits}
 use Rattle.desk_loop.proofs.Hearing.{turned}
 use Rattle.desk_loop.proofs.turn.Statement.{statement}
 use Rattle.desk_loop.proofs.turn.Tie as tie
-
--- where the text was heard
-abbrev heard : tie.After-tell → tie.After-hear
-heard c = c .before .before .before .before .before .before .before .before .before .before .before .before .before .before .before .before
-
-returns : tie.Need-returns
-unfolding hears
-returns c =
-    let start = c .before .before .before .before .before .before .before .before .before .before .before .before .before in (
-      start .pre .0,
-      (
-        omega arith,
-        (
-          record { text = []; few = omega arith; desk = refl; told = sym (over-none newer (start .args .out .now) 0) },
-          (λ e. absurd (subst T (sym e) tt)),
-        ),
-      ),
-    )
 
 slice-aggregate-tell : tie.Need-slice-aggregate-tell
 slice-aggregate-tell c =
@@ -37,11 +17,20 @@ slice-aggregate-tell c =
     sym (length-take-le (after-hear .hear .result .end) (after-hear .hear .last .1 .1 .1 .1 .1 .1 .0)
     (omega (arith, after-hear .hear .ensures .1 .0, after-hear .hear .kept .1 .1 .1 .1 .1 .1 .0)))
 
-returns-2 : tie.Need-returns-2
-returns-2 c =
+tell-requires : tie.Need-tell-requires
+tell-requires c κs =
+    let after-hear = c .before .before .before .before .before .before .before .before .before .before .before .before .before .before .before in
+    let start =
+    after-hear .before .before .before .before .before .before .before .before .before .before .before .before .before .before .before .before .before .before .before in
+    let k = after-hear .hear .kept in
+    still-fits (start .pre .1 .1 .0) (k .1 .1 .1 .0) (k .1 .1 .1 .1 .0) (k .1 .1 .1 .1 .1 .0) refl
+
+returns : tie.Need-returns
+returns c =
     let after-tell = c .before .before in
-    let after-hear = heard after-tell in
-    let after-count = after-hear .before .before .before .before .before .before .before .before in
+    let after-hear =
+    after-tell .before .before .before .before .before .before .before .before .before .before .before .before .before .before .before .before in
+    let after-count = after-hear .before .before .before .before .before .before .before in
     let after-read = after-count .before .before .before in
     let start = after-read .before .before .before .before .before .before .before .before .before in
     let e = after-hear .hear .ensures in
@@ -53,14 +42,21 @@ returns-2 c =
         room = k .1 .1 .0 ∙ (start .pre .0 .room);
         kept = e .1 .1 .0;
         written = refl;
-        answers = omega (arith, k .1 .1 .1 .1 .1 .1 .0, start .pre .0 .answers);
+        answers = omega (
+          arith,
+          k .1 .1 .1 .1 .1 .1 .0,
+          start .pre .0 .answers,
+        );
       },
       (
         omega (arith, e .1 .1 .1, l, n .0 .0, n .0 .1, r),
         (
           turned (take (after-count .count .result) (after-read .read .last .1 .0))
               (omega (arith, l, n .0 .0, n .0 .1, r)) (start .pre .0 .written) (e .0),
-          after-tell .tell .ensures,
+          (
+            (λ g. holds-true (after-tell .tell .result) (both-left (after-tell .tell .result) _ (subst T (sym g) tt))),
+            after-tell .tell .ensures .1,
+          ),
         ),
       ),
     )
@@ -73,17 +69,16 @@ turn-spec =
     (λ c κs. search needs)
     (λ c. search needs)
     (λ c κs. search needs)
-    returns
     (λ c. search needs)
     (λ c. search needs)
     (λ c κs. search needs)
     (λ c. search needs)
     slice-aggregate-tell
-    (λ c κs. search needs)
+    tell-requires
     (λ c. search needs)
     (λ c. search needs)
     (λ c. search needs)
     (λ c. search needs)
     (λ c. search needs)
     (λ c. search needs)
-    returns-2)
+    returns)

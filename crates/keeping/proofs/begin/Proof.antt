@@ -1,17 +1,16 @@
 -- Without a name nothing is done; under one, the memories that the board begins with are taken down.
 use borrow.Author.Needs.{needs}
-use native.Mathlib.Omega.{arith}
 use mathlib.Core.Path.{refl, sym, subst, _∙_}
 use lib.Dec.{T}
 use Rattle.memories.specs.Memories.{memories}
-use Rattle.keeping.proofs.Rooms.{is-named, down-kept, none-kept}
+use Rattle.keeping.proofs.Rooms.{is-named, none-kept}
 use Rattle.keeping.proofs.begin.Statement.{statement}
 use Rattle.keeping.proofs.begin.Tie as tie
 
 returns : tie.Need-returns
 returns c =
     let start = c .before .before .before .before .before .before in (
-      (λ _. refl),
+      (λ _. (refl, refl)),
       (
         (λ _. refl),
         (λ _. none-kept (start .args .name .now) (memories (start .args .flash .now) (start .args .sram .now)
@@ -22,13 +21,10 @@ returns c =
 returns-2 : tie.Need-returns-2
 returns-2 c =
     let after-make = c .before .before in
-    let start = after-make .before .before .before .before .before .before .before .before .before .before .before .before .before in (
-      (λ _. refl),
-      (
-        (λ _. refl),
-        (λ _. down-kept (start .args .name .now) (memories (start .args .flash .now) (start .args .sram .now)
-            (start .args .usd .now)) (start .args .kept .now) _ (omega (arith, after-make .make .kept)) (after-make .make .ensures)),
-      ),
+    let else1 = after-make .before .before .before .before .before .before .before in
+    let start = else1 .before .before .before .before .before .before in (
+      (λ e. absurd (subst T (sym (is-named (start .args .name .now) (else1 .if1 .left)) ∙ e) tt)),
+      ((λ _. refl), (λ _ _. after-make .make .ensures)),
     )
 
 returns-3 : tie.Need-returns-3
@@ -37,11 +33,7 @@ returns-3 c =
     let else1 = after-go-on .before .before .before .before .before .before .before in
     let start = else1 .before .before .before .before .before .before in (
       (λ e. absurd (subst T (sym (is-named (start .args .name .now) (else1 .if1 .left)) ∙ e) tt)),
-      (
-        after-go-on .go-on .ensures .1,
-        (λ t. down-kept (start .args .name .now) _ (start .args .kept .now) _
-            (omega (arith, after-go-on .go-on .kept)) (after-go-on .go-on .ensures .0 t)),
-      ),
+      (after-go-on .go-on .ensures .1, (λ t _. after-go-on .go-on .ensures .0 t)),
     )
 
 pub begin-spec : {M : Type 1} → statement M

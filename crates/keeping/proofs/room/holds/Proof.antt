@@ -1,8 +1,7 @@
 -- Each part of the room is compared with the memory that stands there.
 use borrow.Author.Needs.{needs}
 use native.Mathlib.Omega.{arith}
-use mathlib.Core.Path.{_≡_, sym, subst}
-use lib.Dec.{T}
+use mathlib.Core.Path.{_≡_, sym}
 use lib.ListN.{length}
 use lib.Seq.{length-take-le}
 use Rattle.memories.specs.Memories.{Memories, memories}
@@ -16,7 +15,7 @@ abbrev lent : tie.Start → Memories
 lent c = memories (c .args .flash .now) (c .args .sram .now) (c .args .usd .now)
 
 right : (c : tie.Start) → Lengths (lent c) × (length (c .args .room .now) ≡ memoriesBytes)
-right c = lengths-fit (lent c) (c .args .room .now) (subst T (sym (c .pre)) tt)
+right c = (lengths-fit (c .pre), c .pre .room)
 
 slice-aggregate-same : tie.Need-slice-aggregate-same
 slice-aggregate-same c =
