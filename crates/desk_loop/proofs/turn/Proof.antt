@@ -21,7 +21,8 @@ tell-requires : tie.Need-tell-requires
 tell-requires c κs =
     let after-hear = c .before .before .before .before .before .before .before .before .before .before .before .before .before .before .before in
     let start =
-    after-hear .before .before .before .before .before .before .before .before .before .before .before .before .before .before .before .before .before .before .before in
+    after-hear .before .before .before .before .before .before .before .before .before
+    .before .before .before .before .before .before .before .before .before .before in
     let k = after-hear .hear .kept in
     still-fits (start .pre .1 .1 .0) (k .1 .1 .1 .0) (k .1 .1 .1 .1 .0) (k .1 .1 .1 .1 .1 .0) refl
 
