@@ -1,10 +1,12 @@
 -- What turn after turn has heard is one text, so at the end the board is what that text and the end of the input make of the one it began as.
-use mathlib.Core.Path.{_≡_, sym, ap, _∙_}
-use mathlib.Core.Bool.{Bool}
+use mathlib.Core.Path.{_≡_, sym, ap, subst, _∙_}
+use mathlib.Core.Bool.{Bool, true, _&&_}
 use mathlib.Core.List.{List, [], _++_}
 use Prim.Native.Nat.{ℕ, _≤_}
+use lib.Dec.{T, ltb}
 use lib.ListN.{length}
 use Rattle.words.specs.Over.{put}
+use Rattle.words.proofs.Tests.{both-left, holds-true}
 use Rattle.memories.specs.Memories.{Memories}
 use Rattle.boot.specs.Session.{fresh}
 use Rattle.boot.specs.declared.Session.{Session}
@@ -25,17 +27,23 @@ sits-down why s line m e = record {
 }
 
 -- a text that was read and heard
-pub turned : (text : List ℕ) {before after : Desk} {at until : ℕ} {lent left : List ℕ} → length text ≤ readCharacters → at ≡ 0
-    → Tells (hears text before) at lent until left after → Turns before lent after left
-turned text {before} {lent = lent} few e t = record {
+pub turned : (text : List ℕ) {before after : Desk} {at until : ℕ} {lent left : List ℕ} {well going : Bool} → length text ≤ readCharacters → at ≡ 0
+    → going ≡ (well && ltb 0 (length text)) → Tells (hears text before) at lent until left after → Turns before lent after left well going
+turned text {before} {lent = lent} few e more t = record {
   text = text;
   few = few;
   desk = t .state;
   told = t .text ∙ ap (λ (n : ℕ). put lent n (hears text before .text)) e;
+  more = more;
 }
 
+-- where a turn goes on all could be kept and answered
+pub all-told : {before after : Desk} {lent left : List ℕ} {well going : Bool} → Turns before lent after left well going → going ≡ true → well ≡ true
+all-told {well = well} t g = holds-true well (both-left well (ltb 0 (length (t .text))) (subst T (sym g ∙ t .more) tt))
+
 -- one turn more
-pub one-more : {why : Bool} {m : Memories} {d e : Desk} {lent left : List ℕ} → HasHeard why m d → Turns d lent e left → HasHeard why m e
+pub one-more : {why : Bool} {m : Memories} {d e : Desk} {lent left : List ℕ} {well going : Bool} → HasHeard why m d → Turns d lent e left well going
+    → HasHeard why m e
 one-more {why} {m} h t = record {
   text = h .text ++ t .text;
   desk =

@@ -1,8 +1,9 @@
 -- What is so between two reads, and what some text that was read has left.
 use Prim.Native.Nat.{ℕ, _+_, _*_, _≤_}
 use mathlib.Core.Path.{_≡_}
-use mathlib.Core.Bool.{Bool}
+use mathlib.Core.Bool.{Bool, _&&_}
 use mathlib.Core.List.{List, []}
+use lib.Dec.{ltb}
 use lib.ListN.{length}
 use Rattle.words.specs.Over.{put}
 use Rattle.memories.specs.Memories.{Memories}
@@ -28,12 +29,14 @@ pub record Ready (d : Desk) (line out : List ℕ) : Type 0 where
   pub written : d .end ≡ 0
   pub answers : outCharacters ≤ length out
 
--- a read has brought some text: the desk is then as the paper says of it, and its answers stand at the front of the room for them
-pub record Turns (before : D.Desk) (lent : List ℕ) (after : D.Desk) (left : List ℕ) : Type 0 where
+-- a read has brought some text: the desk is then as the paper says of it, and its answers stand at the front of the room for them; it goes on where
+-- there was any, and all that was to be kept and answered could be
+pub record Turns (before : D.Desk) (lent : List ℕ) (after : D.Desk) (left : List ℕ) (well going : Bool) : Type 0 where
   pub text : List ℕ
   pub few : length text ≤ readCharacters
   pub desk : after ≡ hears text before .state
   pub told : left ≡ put lent 0 (hears text before .text)
+  pub more : going ≡ (well && ltb 0 (length text))
 
 -- the desk at the start, at a board with such memories
 abbrev pub deskAt : Bool → Memories → D.Desk

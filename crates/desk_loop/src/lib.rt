@@ -68,8 +68,7 @@ fn turn(
     ensures ready { λ r. ⌜ Ready (r .desk) (now (line .exit)) (now (out .exit)) ⌝ }
     ensures few { λ r. ⌜ r .desk .lines ≤ desk .lines + readCharacters ⌝ }
     ensures heard { λ r. ⌜ Turns (deskOf desk (now (line .entry)) (were flash sram usd)) (now (out .entry))
-        (deskOf (r .desk) (now (line .exit)) (are flash sram usd)) (now (out .exit)) ⌝ }
-    ensures going { λ r. ⌜ (r .going ≡ true → r .told ≡ true) ⌝ }
+        (deskOf (r .desk) (now (line .exit)) (are flash sram usd)) (now (out .exit)) (r .told) (r .going) ⌝ }
     ensures kept { λ r. ⌜ (r .told ≡ true → Kept (now (name .entry)) (are flash sram usd) (now (kept .exit))) ⌝ }
 {
     let mut input = [0u8; READ_CHARACTERS];

@@ -72,6 +72,7 @@ pub fn hear(
     requires { ⌜ length (now bytes) ≤ readBytes ⌝ }
     requires { ⌜ outBytes ≤ length (now out) ⌝ }
     ensures within { λ r. ⌜ r .length ≤ length (now (out .entry)) ⌝ }
+    ensures all { λ r. ⌜ r .count ≡ length (now (bytes .entry)) ⌝ }
     ensures heard { λ r. ⌜ Hears st (now (bytes .entry)) (stateOf session (were flash sram usd)) (now (out .entry))
         (r .length) (now (out .exit)) (stateOf (r .session) (are flash sram usd)) ⌝ }
 {

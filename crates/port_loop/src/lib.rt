@@ -11,7 +11,7 @@ ghost use Rattle.words.specs.Texts.{characters};
 ghost use Rattle.memories.specs.Lent.{held, were, are};
 ghost use Rattle.keeping.specs.Kept.{Fits, Kept, Begins};
 ghost use Rattle.boot.specs.Promise.{stateOf};
-ghost use Rattle.port_loop.specs.Turns.{outBytes, Turns, LeftBy};
+ghost use Rattle.port_loop.specs.Turns.{outBytes, sitting, Turns, LeftBy};
 use boot::Session;
 use hearing::hear;
 use keeping::begin;
@@ -63,9 +63,8 @@ fn turn(
     requires { ⌜ outBytes ≤ length (now out) ⌝ }
     requires { ⌜ Fits (held flash sram usd) (now kept) ⌝ }
     requires { ⌜ Kept (now name) (held flash sram usd) (now kept) ⌝ }
-    ensures heard { λ r. ⌜ Turns st (stateOf session (were flash sram usd)) (now (out .entry))
-        (stateOf (r .session) (are flash sram usd)) (now (out .exit)) ⌝ }
-    ensures going { λ r. ⌜ (r .going ≡ true → r .told ≡ true) ⌝ }
+    ensures heard { λ r. ⌜ Turns st (sitting (stateOf session (were flash sram usd)) (now (out .entry)))
+        (sitting (stateOf (r .session) (are flash sram usd)) (now (out .exit))) (r .told) (r .going) ⌝ }
     ensures kept { λ r. ⌜ (r .told ≡ true → Kept (now (name .entry)) (are flash sram usd) (now (kept .exit))) ⌝ }
 {
     let mut input = [0u8; READ_BYTES];
@@ -98,7 +97,8 @@ fn sit(
     requires { ⌜ Begins (now name) (held flash sram usd) ⌝ }
     requires { ⌜ Fits (held flash sram usd) (now kept) ⌝ }
     requires { ⌜ Kept (now name) (held flash sram usd) (now kept) ⌝ }
-    ensures left { λ r. ⌜ LeftBy (were flash sram usd) (stateOf (r .session) (are flash sram usd)) ⌝ }
+    ensures left { λ r. ⌜ LeftBy st (were flash sram usd) (now (out .entry))
+        (sitting (stateOf (r .session) (are flash sram usd)) (now (out .exit))) ⌝ }
     ensures kept { λ r. ⌜ (r .told ≡ true → Kept (now (name .entry)) (are flash sram usd) (now (kept .exit))) ⌝ }
 {
     let mut session = Session::power_on();

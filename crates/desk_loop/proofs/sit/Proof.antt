@@ -10,7 +10,7 @@ use Rattle.keeping.specs.Kept.{Kept}
 use Rattle.keeping.proofs.Rooms.{still-fits}
 use Rattle.desk_hearing.specs.Promise.{deskOf}
 use Rattle.desk_loop.specs.Turns.{readCharacters, Ready, HasHeard}
-use Rattle.desk_loop.proofs.Hearing.{sits-down, one-more, gets-up}
+use Rattle.desk_loop.proofs.Hearing.{sits-down, one-more, all-told, gets-up}
 use Rattle.desk_loop.proofs.sit.Statement.{statement}
 use Rattle.desk_loop.proofs.sit.Tie as tie
 
@@ -70,8 +70,8 @@ loop-again c =
       k .1 .1 .1 .1 .1 .1 .1 .1 .0 ∙ i .6,
       k .1 .1 .1 .1 .1 .1 .1 .1 .1 .0 ∙ i .7,
       one-more (i .8) (e .1 .1 .0),
-      e .1 .1 .1 .1,
-      (λ p. e .1 .1 .1 .0 (c .left .ensures .1 p)),
+      e .1 .1 .1,
+      (λ p. all-told (e .1 .1 .0) (c .left .ensures .1 p)),
     )
 
 get-up-requires : tie.Need-get-up-requires Inv-loop μ-loop

@@ -1,11 +1,12 @@
 -- What was read is heard at once, for there is room for all its answers, and they are written behind the keeping.
 use borrow.Author.Needs.{needs}
 use native.Mathlib.Omega.{arith}
-use mathlib.Core.Path.{refl, sym, subst, _∙_}
-use lib.Dec.{T}
-use lib.ListN.{take, length-take}
+use mathlib.Core.Path.{refl, sym, ap, _∙_}
+use mathlib.Core.Bool.{_&&_}
+use Prim.Native.Nat.{ℕ}
+use lib.Dec.{ltb}
+use lib.ListN.{take}
 use lib.Seq.{length-take-le}
-use Rattle.words.proofs.Tests.{both-left, holds-true}
 use Rattle.keeping.proofs.Rooms.{still-fits}
 use Rattle.desk_loop.proofs.Hearing.{turned}
 use Rattle.desk_loop.proofs.turn.Statement.{statement}
@@ -38,7 +39,7 @@ returns c =
     let k = after-hear .hear .kept in
     let n = after-count .count .ensures in
     let r = after-read .read .kept .1 .0 in
-    let l = length-take (after-count .count .result) (after-read .read .last .1 .0) in (
+    let l = length-take-le (after-count .count .result) (after-read .read .last .1 .0) (omega (arith, n .0 .0, n .0 .1, r)) in (
       record {
         room = k .1 .1 .0 ∙ (start .pre .0 .room);
         kept = e .1 .1 .0;
@@ -52,12 +53,9 @@ returns c =
       (
         omega (arith, e .1 .1 .1, l, n .0 .0, n .0 .1, r),
         (
-          turned (take (after-count .count .result) (after-read .read .last .1 .0))
-              (omega (arith, l, n .0 .0, n .0 .1, r)) (start .pre .0 .written) (e .0),
-          (
-            (λ g. holds-true (after-tell .tell .result) (both-left (after-tell .tell .result) _ (subst T (sym g) tt))),
-            after-tell .tell .ensures .1,
-          ),
+          turned (take (after-count .count .result) (after-read .read .last .1 .0)) (omega (arith, l, n .0 .0, n .0 .1, r))
+              (start .pre .0 .written) (ap (λ (k : ℕ). after-tell .tell .result && ltb 0 k) (sym l)) (e .0),
+          after-tell .tell .ensures .1,
         ),
       ),
     )

@@ -9,14 +9,14 @@ use Rattle.memories.specs.Memories.{memories}
 use Rattle.keeping.specs.Kept.{Kept}
 use Rattle.keeping.proofs.Rooms.{still-fits}
 use Rattle.boot.specs.Promise.{stateOf}
-use Rattle.port_loop.specs.Turns.{LeftBy}
-use Rattle.port_loop.proofs.Reading.{begun, one-more}
+use Rattle.port_loop.specs.Turns.{sitting, LeftBy}
+use Rattle.port_loop.proofs.Reading.{all-told, begun, one-more}
 use Rattle.port_loop.proofs.sit.Statement.{statement}
 use Rattle.port_loop.proofs.sit.Tie as tie
 
 abbrev Inv-loop : tie.InvT-loop
 Inv-loop st name from to flash₀ sram₀ usd₀ out₀ kept₀ session₀ told₀ turns₀ flash sram usd out kept session told turns =
-    LeftBy (memories flash₀ sram₀ usd₀) (stateOf session (memories flash sram usd))
+    LeftBy st (memories flash₀ sram₀ usd₀) out₀ (sitting (stateOf session (memories flash sram usd)) out)
     × (length flash ≡ length flash₀)
     × (length sram ≡ length sram₀)
     × (length usd ≡ length usd₀)
@@ -53,8 +53,8 @@ loop-again c =
       k .1 .1 .1 .1 .1 .1 .1 .0 ∙ i .3,
       k .1 .1 .1 .1 .1 .1 .1 .1 .0 ∙ i .4,
       k .1 .1 .1 .1 .1 .1 .1 .1 .1 .0 ∙ i .5,
-      e .1 .1,
-      (λ p. e .1 .0 (c .left .ensures .1 p)),
+      e .1,
+      (λ p. all-told (e .0) (c .left .ensures .1 p)),
     )
 
 pub sit-spec : {M : Type 1} → statement M

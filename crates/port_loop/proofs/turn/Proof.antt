@@ -1,11 +1,12 @@
 -- What was read is heard at once, for there is room for all its replies, and they are written behind the keeping.
 use borrow.Author.Needs.{needs}
 use native.Mathlib.Omega.{arith}
-use mathlib.Core.Path.{refl, sym, subst}
-use lib.Dec.{T}
-use lib.ListN.{take, length-take}
+use mathlib.Core.Path.{refl, sym, ap}
+use mathlib.Core.Bool.{_&&_}
+use Prim.Native.Nat.{ℕ}
+use lib.Dec.{ltb}
+use lib.ListN.{take}
 use lib.Seq.{length-take-le}
-use Rattle.words.proofs.Tests.{both-left, holds-true}
 use Rattle.keeping.proofs.Rooms.{still-fits}
 use Rattle.port_loop.proofs.Reading.{turned}
 use Rattle.port_loop.proofs.turn.Statement.{statement}
@@ -33,13 +34,10 @@ returns c =
     let after-read = after-count .before .before .before in
     let n = after-count .count .ensures in
     let r = after-read .read .kept .1 .0 in
-    let l = length-take (after-count .count .result) (after-read .read .last .1 .0) in (
+    let l = length-take-le (after-count .count .result) (after-read .read .last .1 .0) (omega (arith, n .0 .0, n .0 .1, r)) in (
       turned (take (after-count .count .result) (after-read .read .last .1 .0)) (omega (arith, l, n .0 .0, n .0 .1, r))
-          (after-hear .hear .ensures .1),
-      (
-        (λ g. holds-true (after-tell .tell .result) (both-left (after-tell .tell .result) _ (subst T (sym g) tt))),
-        after-tell .tell .ensures .1,
-      ),
+          (ap (λ (k : ℕ). after-tell .tell .result && ltb 0 k) (sym l)) (after-hear .hear .ensures .1 .1),
+      after-tell .tell .ensures .1,
     )
 
 pub turn-spec : {M : Type 1} → statement M

@@ -105,7 +105,7 @@ returns c =
     let inv = at-loop .loop .inv in
     let pre = start at-loop .pre in (
       omega (arith, inv .1, inv .0, inv .6, pre .0, pre .1),
-      all-heard (start at-loop .args .bytes .now) (at-loop .loop .i) (omega (arith, inv .0)) (inv .2),
+      (omega (arith, inv .0), all-heard (start at-loop .args .bytes .now) (at-loop .loop .i) (omega (arith, inv .0)) (inv .2)),
     )
 
 pub hear-spec : {M : Type 1} → statement M
