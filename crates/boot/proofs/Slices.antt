@@ -85,7 +85,7 @@ module _ (room b : ℕ) (p : State) where
       accepted-clear (proper (p .memories)) (leb uartRoom room) true (p .session) (sym (call-cause (Byte room b) p) ∙ a) .enough
 
   -- with enough room it is the same whatever the room
-  same-call : T (leb uartRoom room) → one ≡ call (Byte uartRoom b) p
+  pub same-call : T (leb uartRoom room) → one ≡ call (Byte uartRoom b) p
   unfolding call causeFor decide perform sent
   same-call t = rw (holds-true (leb uartRoom room) t) refl
 
