@@ -14,6 +14,7 @@ ghost use Rattle.keeping.specs.Kept.{memoriesBytes, inBytes, memoriesIn,
 use libc::STDERR_FILENO;
 use room::MEMORIES_BYTES;
 use room::bring_back;
+use room::holds;
 use room::take_down;
 
 // Room for the bytes of a file, and a byte more, which tells that it is longer.
@@ -38,13 +39,30 @@ fn say_length(name: &[u8], length: usize) {
     io::write_all(STDERR_FILENO, b"\n");
 }
 
+// Writes bytes to the file of a name, or says why it cannot: only once they are written they are what was kept last.
+fn put_down(name: &[u8], new: &[u8], kept: &mut [u8]) -> bool
+    requires { ⌜ length (now new) ≡ memoriesBytes ⌝ }
+    requires { ⌜ length (now kept) ≡ memoriesBytes ⌝ }
+    ensures written { λ r. ⌜ (r ≡ true → now (kept .exit) ≡ now (new .entry)) ⌝ }
+    ensures failed { λ r. ⌜ (r ≡ false → now (kept .exit) ≡ now (kept .entry)) ⌝ }
+{
+    let saved = files::save(name, new);
+    if saved {
+        words::copy(kept, 0, new, 0, MEMORIES_BYTES);
+        return true;
+    }
+    false
+}
+
 // Makes the file of a name of the memories.
 fn make(name: &[u8], flash: &[u8], sram: &[u8], usd: &[u8], kept: &mut [u8]) -> bool
     requires { ⌜ Fits (held flash sram usd) (now kept) ⌝ }
-    ensures { λ _. ⌜ now (kept .exit) ≡ inBytes (were flash sram usd) ⌝ }
+    ensures made { λ r. ⌜ (r ≡ true → now (kept .exit) ≡ inBytes (were flash sram usd)) ⌝ }
+    ensures failed { λ r. ⌜ (r ≡ false → now (kept .exit) ≡ now (kept .entry)) ⌝ }
 {
-    take_down(flash, sram, usd, kept);
-    files::save(name, kept)
+    let mut first = room::empty();
+    take_down(flash, sram, usd, &mut first);
+    put_down(name, &first, kept)
 }
 
 // Brings the memories back that the bytes of a file are, and takes these down.
@@ -103,22 +121,23 @@ pub fn begin(
     }
 }
 
-// Keeps the memories in the file of a name, where they are not what was kept last, or says why it cannot; without a name it does nothing. Where it
-// cannot, the room holds them nevertheless, and would tell the next call that nothing changed: so behind a failure nothing may be answered.
+// Keeps the memories in the file of a name, where they are not what was kept last, or says why it cannot; without a name it does nothing.
 pub fn keep(name: &[u8], flash: &[u8], sram: &[u8], usd: &[u8], kept: &mut [u8]) -> bool
     requires { ⌜ Fits (held flash sram usd) (now kept) ⌝ }
     ensures kept { λ r. ⌜ (r ≡ true → Kept (now (name .entry)) (were flash sram usd) (now (kept .exit))) ⌝ }
-    ensures same { λ r. ⌜ (now (kept .exit) ≡ now (kept .entry) → r ≡ true) ⌝ }
+    ensures failed { λ r. ⌜ (r ≡ false → now (kept .exit) ≡ now (kept .entry)) ⌝ }
+    ensures same { λ r. ⌜ (Kept (now (name .entry)) (were flash sram usd) (now (kept .entry)) → r ≡ true) ⌝ }
 {
     if name.len() == 0 {
         return true;
     }
-    let changed = take_down(flash, sram, usd, kept);
-    if changed {
-        files::save(name, kept)
-    } else {
-        true
+    let same = holds(flash, sram, usd, kept);
+    if same {
+        return true;
     }
+    let mut new = room::empty();
+    take_down(flash, sram, usd, &mut new);
+    put_down(name, &new, kept)
 }
 
 // Writes what is to be answered, once the memories are kept: only for that they are lent.

@@ -21,7 +21,7 @@ pub fn empty() -> [u8; MEMORIES_BYTES]
 }
 
 // Whether a room holds the memories.
-fn holds(flash: &[u8], sram: &[u8], usd: &[u8], room: &[u8]) -> bool
+pub fn holds(flash: &[u8], sram: &[u8], usd: &[u8], room: &[u8]) -> bool
     requires { ⌜ Fits (held flash sram usd) (now room) ⌝ }
     ensures held { λ r. ⌜ (r ≡ true → now (room .entry) ≡ inBytes (were flash sram usd)) ⌝ }
     ensures only { λ r. ⌜ (now (room .entry) ≡ inBytes (were flash sram usd) → r ≡ true) ⌝ }

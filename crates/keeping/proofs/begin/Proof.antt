@@ -24,7 +24,7 @@ returns-2 c =
     let else1 = after-make .before .before .before .before .before .before .before in
     let start = else1 .before .before .before .before .before .before in (
       (λ e. absurd (subst T (sym (is-named (start .args .name .now) (else1 .if1 .left)) ∙ e) tt)),
-      ((λ _. refl), (λ _ _. after-make .make .ensures)),
+      ((λ _. refl), (λ t _. after-make .make .ensures .0 t)),
     )
 
 returns-3 : tie.Need-returns-3
