@@ -60,8 +60,7 @@ fn make(name: &[u8], flash: &[u8], sram: &[u8], usd: &[u8], kept: &mut [u8]) -> 
     ensures made { λ r. ⌜ (r ≡ true → now (kept .exit) ≡ inBytes (were flash sram usd)) ⌝ }
     ensures failed { λ r. ⌜ (r ≡ false → now (kept .exit) ≡ now (kept .entry)) ⌝ }
 {
-    let mut first = room::empty();
-    take_down(flash, sram, usd, &mut first);
+    let first = take_down(flash, sram, usd);
     put_down(name, &first, kept)
 }
 
@@ -135,8 +134,7 @@ pub fn keep(name: &[u8], flash: &[u8], sram: &[u8], usd: &[u8], kept: &mut [u8])
     if same {
         return true;
     }
-    let mut new = room::empty();
-    take_down(flash, sram, usd, &mut new);
+    let new = take_down(flash, sram, usd);
     put_down(name, &new, kept)
 }
 

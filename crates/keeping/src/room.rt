@@ -1,8 +1,10 @@
 // A board's memories, taken down in a room one behind the other and brought back from it.
 ghost use mathlib.Core.Path.{_≡_};
 ghost use mathlib.Core.Bool.{true, false};
+ghost use lib.Dec.{T};
 ghost use lib.ListN.{length};
 ghost use Rattle.memories.specs.Lent.{held, were, are};
+ghost use Rattle.memories.specs.Memories.{proper};
 ghost use Rattle.keeping.specs.Kept.{memoriesBytes, inBytes, memoriesIn, Fits};
 use board::Board;
 
@@ -32,21 +34,16 @@ pub fn holds(flash: &[u8], sram: &[u8], usd: &[u8], room: &[u8]) -> bool
     first & second & third
 }
 
-// Takes the memories down, and tells whether the room then holds something else than before.
-pub fn take_down(flash: &[u8], sram: &[u8], usd: &[u8], room: &mut [u8]) -> bool
-    requires { ⌜ Fits (held flash sram usd) (now room) ⌝ }
-    ensures room { λ _. ⌜ now (room .exit) ≡ inBytes (were flash sram usd) ⌝ }
-    ensures same { λ r. ⌜ (r ≡ false → now (room .exit) ≡ now (room .entry)) ⌝ }
-    ensures other { λ r. ⌜ (now (room .exit) ≡ now (room .entry) → r ≡ false) ⌝ }
+// The bytes of the memories.
+pub fn take_down(flash: &[u8], sram: &[u8], usd: &[u8]) -> [u8; MEMORIES_BYTES]
+    requires { ⌜ T (proper (held flash sram usd)) ⌝ }
+    ensures { λ r. ⌜ r ≡ inBytes (were flash sram usd) ⌝ }
 {
-    let held = holds(flash, sram, usd, room);
-    if held {
-        return false;
-    }
-    words::copy(room, 0, flash, 0, Board::FLASH_BYTES);
-    words::copy(room, SRAM_AT, sram, 0, Board::SRAM_BYTES);
-    words::copy(room, USD_AT, usd, 0, Board::USD_BYTES);
-    true
+    let mut room = empty();
+    words::copy(&mut room, 0, flash, 0, Board::FLASH_BYTES);
+    words::copy(&mut room, SRAM_AT, sram, 0, Board::SRAM_BYTES);
+    words::copy(&mut room, USD_AT, usd, 0, Board::USD_BYTES);
+    room
 }
 
 // Brings the memories back that a room holds.

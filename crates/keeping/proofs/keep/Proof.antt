@@ -3,7 +3,7 @@ use borrow.Author.Needs.{needs}
 use mathlib.Core.Path.{refl, sym, subst, _∙_}
 use lib.Dec.{T}
 use Rattle.memories.specs.Memories.{memories}
-use Rattle.keeping.proofs.Rooms.{is-named, none-kept}
+use Rattle.keeping.proofs.Rooms.{are-proper, lengths-fit, is-named, none-kept}
 use Rattle.keeping.proofs.keep.Statement.{statement}
 use Rattle.keeping.proofs.keep.Tie as tie
 
@@ -18,12 +18,12 @@ returns c =
 returns-3 : tie.Need-returns-3
 returns-3 c =
     let after-put-down = c .before .before in
-    let after-take-down = after-put-down .before .before .before .before in
-    let else2 = after-take-down .before .before .before in
+    let after-take-down = after-put-down .before .before .before in
+    let else2 = after-take-down .before in
     let after-holds = else2 .before in
     let else1 = after-holds .before .before in
     let start = else1 .before .before .before .before .before .before in (
-      (λ t _. after-put-down .put-down .ensures .0 t ∙ after-take-down .take-down .ensures .0),
+      (λ t _. after-put-down .put-down .ensures .0 t ∙ after-take-down .take-down .ensures),
       (
         after-put-down .put-down .ensures .1,
         (λ k. absurd (subst T (sym (after-holds .holds .ensures .1 (k (subst T (sym (is-named (start .args .name .now) (else1 .if1 .left))) tt)))
@@ -39,9 +39,7 @@ keep-spec =
     (λ c κs. search needs)
     (λ c. search needs)
     (λ c. ((λ _ _. c .before .holds .ensures .0 (c .if2 .taken)), ((λ _. refl), (λ _. refl))))
-    (λ c κs. search needs)
-    (λ c. search needs)
-    (λ c κs. search needs)
+    (λ c κs. are-proper _ (lengths-fit (c .before .before .before .before .before .before .before .before .before .pre)))
     (λ c. search needs)
     (λ c κs. search needs)
     (λ c. search needs)
