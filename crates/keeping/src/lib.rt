@@ -7,8 +7,10 @@ pub mod turns;
 
 ghost use mathlib.Core.Path.{_≡_};
 ghost use mathlib.Core.Bool.{true, false};
-ghost use lib.ListN.{length};
+ghost use lib.Dec.{eqb};
+ghost use lib.ListN.{length, take};
 ghost use Prim.Native.Nat.{_+_};
+ghost use Rattle.io.specs.Counts.{Counts};
 ghost use Rattle.memories.specs.Lent.{held, were, are};
 ghost use Rattle.keeping.specs.Kept.{memoriesBytes, inBytes, memoriesIn, named, Fits, Kept};
 use libc::STDERR_FILENO;
@@ -64,15 +66,29 @@ fn make(name: &[u8], flash: &[u8], sram: &[u8], usd: &[u8], kept: &mut [u8]) -> 
     put_down(name, &first, kept)
 }
 
-// Brings the memories back that the bytes of a file are, and takes these down.
-fn restore(bytes: &[u8], flash: &mut [u8], sram: &mut [u8], usd: &mut [u8], kept: &mut [u8])
-    requires { ⌜ length (now bytes) ≡ memoriesBytes ⌝ }
+// Brings the memories back that the first n bytes are, and takes these down, if memories are so many bytes: it tells whether they are.
+fn restore(
+    bytes: &[u8],
+    n: usize,
+    flash: &mut [u8],
+    sram: &mut [u8],
+    usd: &mut [u8],
+    kept: &mut [u8],
+) -> bool
+    requires { ⌜ Counts n (now bytes) ⌝ }
     requires { ⌜ Fits (held flash sram usd) (now kept) ⌝ }
-    ensures back { λ _. ⌜ are flash sram usd ≡ memoriesIn (now (bytes .entry)) ⌝ }
-    ensures kept { λ _. ⌜ now (kept .exit) ≡ now (bytes .entry) ⌝ }
+    ensures all { λ r. ⌜ r ≡ eqb n memoriesBytes ⌝ }
+    ensures back { λ r. ⌜ (r ≡ true → are flash sram usd ≡ memoriesIn (take n (now (bytes .entry)))) ⌝ }
+    ensures kept { λ r. ⌜ (r ≡ true → now (kept .exit) ≡ take n (now (bytes .entry))) ⌝ }
+    ensures refused { λ r. ⌜ (r ≡ false → are flash sram usd ≡ were flash sram usd) ⌝ }
+    ensures unkept { λ r. ⌜ (r ≡ false → now (kept .exit) ≡ now (kept .entry)) ⌝ }
 {
-    bring_back(bytes, flash, sram, usd);
-    words::copy(kept, 0, bytes, 0, MEMORIES_BYTES);
+    if n != MEMORIES_BYTES {
+        return false;
+    }
+    bring_back(&bytes[..n], flash, sram, usd);
+    words::copy(kept, 0, bytes, 0, n);
+    true
 }
 
 // Brings the memories back that the file of a name holds, or says why it cannot.
@@ -80,6 +96,7 @@ fn go_on(name: &[u8], flash: &mut [u8], sram: &mut [u8], usd: &mut [u8], kept: &
     requires { ⌜ Fits (held flash sram usd) (now kept) ⌝ }
     ensures kept { λ r. ⌜ (r ≡ true → now (kept .exit) ≡ inBytes (are flash sram usd)) ⌝ }
     ensures refused { λ r. ⌜ (r ≡ false → are flash sram usd ≡ were flash sram usd) ⌝ }
+    ensures unkept { λ r. ⌜ (r ≡ false → now (kept .exit) ≡ now (kept .entry)) ⌝ }
 {
     let mut bytes = file_room();
     let got = files::read(name, &mut bytes);
@@ -87,12 +104,12 @@ fn go_on(name: &[u8], flash: &mut [u8], sram: &mut [u8], usd: &mut [u8], kept: &
         return false;
     }
     let n = got.length;
-    if n != MEMORIES_BYTES {
-        say_length(name, n);
-        return false;
+    let back = restore(&bytes, n, flash, sram, usd, kept);
+    if back {
+        return true;
     }
-    restore(&bytes[..n], flash, sram, usd, kept);
-    true
+    say_length(name, n);
+    false
 }
 
 // Begins with a board: without a name with the memories as they are lent; else with those that the file of that name holds, which is made of

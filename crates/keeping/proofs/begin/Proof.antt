@@ -33,7 +33,7 @@ returns-3 c =
     let else1 = after-go-on .before .before .before .before .before .before .before in
     let start = else1 .before .before .before .before .before .before in (
       (λ e. absurd (subst T (sym (is-named (start .args .name .now) (else1 .if1 .left)) ∙ e) tt)),
-      (after-go-on .go-on .ensures .1, (λ t _. after-go-on .go-on .ensures .0 t)),
+      (after-go-on .go-on .ensures .1 .0, (λ t _. after-go-on .go-on .ensures .0 t)),
     )
 
 pub begin-spec : {M : Type 1} → statement M
