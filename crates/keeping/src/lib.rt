@@ -46,7 +46,7 @@ fn put_down(name: &[u8], new: &[u8], kept: &mut [u8]) -> bool
     requires { ⌜ length (now new) ≡ memoriesBytes ⌝ }
     requires { ⌜ length (now kept) ≡ memoriesBytes ⌝ }
     ensures written { λ r. ⌜ (r ≡ true → now (kept .exit) ≡ now (new .entry)) ⌝ }
-    ensures failed { λ r. ⌜ (r ≡ false → now (kept .exit) ≡ now (kept .entry)) ⌝ }
+    ensures unkept { λ r. ⌜ (r ≡ false → now (kept .exit) ≡ now (kept .entry)) ⌝ }
 {
     let saved = files::save(name, new);
     if saved {
@@ -56,11 +56,12 @@ fn put_down(name: &[u8], new: &[u8], kept: &mut [u8]) -> bool
     false
 }
 
-// Makes the file of a name of the memories.
-fn make(name: &[u8], flash: &[u8], sram: &[u8], usd: &[u8], kept: &mut [u8]) -> bool
+// Makes the file of a name of the memories, only where it is missing.
+fn make(missing: bool, name: &[u8], flash: &[u8], sram: &[u8], usd: &[u8], kept: &mut [u8]) -> bool
+    requires { ⌜ missing ≡ true ⌝ }
     requires { ⌜ Fits (held flash sram usd) (now kept) ⌝ }
     ensures made { λ r. ⌜ (r ≡ true → now (kept .exit) ≡ inBytes (were flash sram usd)) ⌝ }
-    ensures failed { λ r. ⌜ (r ≡ false → now (kept .exit) ≡ now (kept .entry)) ⌝ }
+    ensures unkept { λ r. ⌜ (r ≡ false → now (kept .exit) ≡ now (kept .entry)) ⌝ }
 {
     let first = take_down(flash, sram, usd);
     put_down(name, &first, kept)
@@ -131,7 +132,7 @@ pub fn begin(
     }
     let missing = files::is_missing(name);
     if missing {
-        make(name, flash, sram, usd, kept)
+        make(missing, name, flash, sram, usd, kept)
     } else {
         go_on(name, flash, sram, usd, kept)
     }
@@ -141,7 +142,7 @@ pub fn begin(
 pub fn keep(name: &[u8], flash: &[u8], sram: &[u8], usd: &[u8], kept: &mut [u8]) -> bool
     requires { ⌜ Fits (held flash sram usd) (now kept) ⌝ }
     ensures kept { λ r. ⌜ (r ≡ true → Kept (now (name .entry)) (were flash sram usd) (now (kept .exit))) ⌝ }
-    ensures failed { λ r. ⌜ (r ≡ false → now (kept .exit) ≡ now (kept .entry)) ⌝ }
+    ensures unkept { λ r. ⌜ (r ≡ false → now (kept .exit) ≡ now (kept .entry)) ⌝ }
     ensures same { λ r. ⌜ (Kept (now (name .entry)) (were flash sram usd) (now (kept .entry)) → r ≡ true) ⌝ }
 {
     if name.len() == 0 {

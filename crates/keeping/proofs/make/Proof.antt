@@ -9,7 +9,7 @@ pub make-spec : {M : Type 1} → statement M
 make-spec =
     tie.close
     (tie.spec
-    (λ c κs. are-proper _ (lengths-fit (c .before .before .before .before .before .pre)))
+    (λ c κs. are-proper _ (lengths-fit (c .before .before .before .before .before .pre .1)))
     (λ c. search needs)
     (λ c κs. search needs)
     (λ c. search needs)
