@@ -7,6 +7,7 @@ use Prim.Native.Nat.{_≤_, _<_, _+_, _*_, _^_}
 use lib.ListN.{length}
 use Rattle.memories.specs.Memories.{memories}
 use Rattle.keeping.specs.Kept.{Kept}
+use Rattle.keeping.proofs.Counting.{fewer, some-left}
 use Rattle.keeping.proofs.Rooms.{still-fits}
 use Rattle.desk_hearing.specs.Promise.{deskOf}
 use Rattle.desk_loop.specs.Turns.{readCharacters, Ready, HasHeard}
@@ -57,12 +58,13 @@ turn-requires c κs =
 loop-again : tie.Need-loop-again Inv-loop μ-loop
 loop-again c =
     let after-turn = c .before .before .before .before .before .before .before .before .before .before .before .before .before .before in
-    let at-loop = after-turn .before .before .before .before .before .before .before .before in
+    let in-loop = after-turn .before .before .before .before .before .before .before in
+    let at-loop = in-loop .before in
     let i = at-loop .loop .inv in
     let k = after-turn .turn .kept in
     let e = after-turn .turn .ensures in (
       e .0,
-      omega (arith, e .1 .0, c .left .ensures .0, i .1),
+      omega (arith, e .1 .0, fewer _ _ _ (in-loop .loop-test .taken) (c .left .ensures), i .1),
       k .1 .1 .1 .1 .0 ∙ i .2,
       k .1 .1 .1 .1 .1 .0 ∙ i .3,
       k .1 .1 .1 .1 .1 .1 .0 ∙ i .4,
@@ -71,7 +73,7 @@ loop-again c =
       k .1 .1 .1 .1 .1 .1 .1 .1 .1 .0 ∙ i .7,
       one-more (i .8) (e .1 .1 .0),
       e .1 .1 .1,
-      (λ p. all-told (e .1 .1 .0) (c .left .ensures .1 p)),
+      (λ p. all-told (e .1 .1 .0) (some-left _ _ _ (c .left .ensures) p)),
     )
 
 get-up-requires : tie.Need-get-up-requires Inv-loop μ-loop
@@ -133,7 +135,7 @@ sit-spec =
     loop-holds
     turn-requires
     (λ c κs. omega arith)
-    (λ c. omega (arith, c .left .ensures .0))
+    (λ c. fewer _ _ _ (omega arith) (c .left .ensures))
     loop-again
     get-up-requires
     same-length

@@ -7,6 +7,7 @@ use Prim.Native.Nat.{_<_}
 use lib.ListN.{length}
 use Rattle.memories.specs.Memories.{memories}
 use Rattle.keeping.specs.Kept.{Kept}
+use Rattle.keeping.proofs.Counting.{fewer, some-left}
 use Rattle.keeping.proofs.Rooms.{still-fits}
 use Rattle.boot.specs.Promise.{stateOf}
 use Rattle.port_loop.specs.Turns.{sitting, LeftBy}
@@ -54,7 +55,7 @@ loop-again c =
       k .1 .1 .1 .1 .1 .1 .1 .1 .0 ∙ i .4,
       k .1 .1 .1 .1 .1 .1 .1 .1 .1 .0 ∙ i .5,
       e .1,
-      (λ p. all-told (e .0) (c .left .ensures .1 p)),
+      (λ p. all-told (e .0) (some-left _ _ _ (c .left .ensures) p)),
     )
 
 pub sit-spec : {M : Type 1} → statement M
@@ -67,7 +68,7 @@ sit-spec =
     loop-holds
     turn-requires
     (λ c κs. omega arith)
-    (λ c. omega (arith, c .left .ensures .0))
+    (λ c. fewer _ _ _ (omega arith) (c .left .ensures))
     loop-again
     (λ c. c .before .loop .inv .1)
     (λ c. c .before .loop .inv .2)
