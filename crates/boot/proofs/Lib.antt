@@ -4,3 +4,4 @@ pub mod Accept
 pub mod Causes
 pub mod Silent
 pub mod Slices
+pub mod Firm

@@ -31,6 +31,14 @@ module _ (s : Session) (t : T (sound s)) where
       both-right (leb (s .carrier) 3 && leb (s .speed) 3) (stepSound (s .carrier) (s .step) (s .expected))
       (both-left (leb (s .carrier) 3 && leb (s .speed) 3 && stepSound (s .carrier) (s .step) (s .expected)) (ltb (s .taken) (s .expected)) t)
 
+  -- the speed is one of the four
+  pub sound-speed : T (leb (s .speed) 3)
+  unfolding sound
+  sound-speed =
+      both-right (leb (s .carrier) 3) (leb (s .speed) 3)
+      (both-left (leb (s .carrier) 3 && leb (s .speed) 3) (stepSound (s .carrier) (s .step) (s .expected))
+      (both-left (leb (s .carrier) 3 && leb (s .speed) 3 && stepSound (s .carrier) (s .step) (s .expected)) (ltb (s .taken) (s .expected)) t))
+
   -- on UART, that is a step of UART, and on CAN one of CAN
   pub uart-expects : T (on Uart s) → T (U.expects (U.stepOf (s .step)) (s .expected))
   uart-expects o =

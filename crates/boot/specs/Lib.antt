@@ -8,3 +8,4 @@ pub mod Refusals
 pub mod Gathering
 pub mod Slices
 pub mod Stops
+pub mod Firm

@@ -1,6 +1,7 @@
 // What document 01 says of causes, refusals and sessions in its own numbers. Nothing is run here: each function's promise is a statement of specs/,
 // so that a check fails where its proof is missing.
 ghost use Rattle.boot.specs.Causes.{CauseNumbers};
+ghost use Rattle.boot.specs.Firm.{LeavesFirm, RefusedMidway};
 ghost use Rattle.boot.specs.Refusals.{FirstCauses, Refusals, SliceRefusals};
 ghost use Rattle.boot.specs.Sessions.{Sessions};
 ghost use Rattle.boot.specs.Stops.{Stops};
@@ -28,6 +29,16 @@ pub fn slice_refusals()
 // The call of a slice takes exactly the bytes before the first that finds under 257 bytes of room left or is refused.
 pub fn stops()
     ensures { λ _. ⌜ Stops ⌝ }
+{}
+
+// An accepted byte or frame leaves a sound session and memories of their lengths; power on leaves a sound session.
+pub fn leaves_firm()
+    ensures { λ _. ⌜ LeavesFirm ⌝ }
+{}
+
+// A slice that was not refused, and stops although 257 bytes of room are left, has met a board that runs.
+pub fn refused_midway()
+    ensures { λ _. ⌜ RefusedMidway ⌝ }
 {}
 
 // Each session that may follow another, number by number: at power on, connected, reset, gathering, idle, at a new speed, in a step, running.

@@ -3,3 +3,4 @@ mod Becomes
 pub mod Written
 mod Erased
 pub mod Protected
+pub mod Lengths

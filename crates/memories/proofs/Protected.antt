@@ -122,7 +122,7 @@ released-none u k l h =
     ∙ getD-replicate {A = ℕ} 4 (k .0 / 8) 255 0 (omega arith) in
     rw (by-its-bit (released u) k h, a, ones-bit (k .0 % 8) (omega arith))
 
-length-released : (u : List ℕ) → length (released u) ≡ length u
+pub length-released : (u : List ℕ) → length (released u) ≡ length u
 unfolding released
 length-released u = length-over newer u 8 (replicate 4 0xFF)
 

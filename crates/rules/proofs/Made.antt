@@ -2,11 +2,12 @@
 use mathlib.Core.Path.{_≡_, refl}
 use mathlib.Core.Bool.{Bool, true, false, not}
 use mathlib.Core.List.{List}
-use Prim.Native.Nat.{ℕ}
-use lib.Dec.{T}
+use Prim.Native.Nat.{ℕ, _+_, _≤_}
+use lib.Dec.{T, leb}
+use borrow.Author.Tests.{leb-true}
 use Rattle.words.specs.Choice.{if_then_else_}
 use Rattle.words.specs.Lists.{any, all}
-use Rattle.board.specs.Quantities.{isSector, bytesIn, firstIndexed, firstNumbered}
+use Rattle.board.specs.Quantities.{lessOne, isSector, bytesIn, firstIndexed, firstNumbered}
 use Rattle.board.specs.Regions.{placeOf}
 use Rattle.board.specs.View.{writeProtected}
 use Rattle.board.specs.declared.Address.{Address}
@@ -25,7 +26,10 @@ use Rattle.command.specs.declared.Verdict.the-variants.{Fine, No}
 use Rattle.command.specs.declared.Why.{Why}
 use Rattle.command.specs.declared.Why.the-variants.{BadSector, WriteProtected}
 use Rattle.command.proofs.Holds.{Holds, either, judged-either}
-use Rattle.rules.specs.Rules.{readAt, reading, afterWrite, writeAt, writing, eraseVerdict, erasing, protectVerdict, protecting, jumping, sumAt, summing}
+use Rattle.rules.specs.Rules.{readAt, reading, afterWrite, writeAt, writing, selectorOf, eraseVerdict, erasing}
+use Rattle.rules.specs.Rules.{protectVerdict, protecting, jumping, sumAt, summing}
+use Rattle.rules.specs.declared.Selector.{Selector}
+use Rattle.rules.specs.declared.Selector.the-variants.{Listed, Special, Impossible}
 
 module _ (P : Decision → Type 0) (refusal : (w : Why) → Holds P (nack w)) where
   -- bytes are read or written at the place that they have
@@ -84,3 +88,13 @@ module _ (P : Decision → Type 0) (refusal : (w : Why) → Holds P (nack w)) wh
       by-place (In Sram at) e = refusal _
       by-place (In Usd at) e = refusal _
       by-place Nowhere e = refusal _
+
+-- a selector is special, announces at most 32 sectors, or is impossible
+pub selector-made : (P : Selector → Type 0) (n : ℕ) → P (Special n) → (n + 1 ≤ 32 → P (Listed (lessOne n))) → P Impossible → P (selectorOf n)
+unfolding selectorOf
+selector-made P n special listed impossible = by-tests (leb 0xFFFB n) (leb (n + 1) 32) refl
+  where
+    by-tests : (t u : Bool) → leb (n + 1) 32 ≡ u → P (if t then Special n else if u then Listed (lessOne n) else Impossible)
+    by-tests true u e = special
+    by-tests false true e = listed (leb-true (n + 1) 32 e)
+    by-tests false false e = impossible

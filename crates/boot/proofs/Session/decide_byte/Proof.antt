@@ -30,7 +30,7 @@ returns c =
     let e : c .heard .result ≡ decideByte (start .args .self) (start .args .view) (start .args .byte) =
     rw (← after-on .on .ensures, then1 .if1 .taken, ← ap (λ (s : Session). s .staged) (start .pre .1)) (c .heard .ensures) in
     let g = byte-can (start .args .byte) (start .args .self) (start .args .view) (start .pre .1) e (start .pre .0) (start .pre .2) in
-    (e, g .sayable, g .fits)
+    (e, g .0, g .1)
 
 returns-2 : tie.Need-returns-2
 unfolding decideByte connected UC.heard if_gives_else_
@@ -41,7 +41,7 @@ returns-2 c =
     let e : c .unconnected .result ≡ decideByte (start .args .self) (start .args .view) (start .args .byte) =
     rw (← after-on .on .ensures, else1 .if1 .left) (c .unconnected .ensures) in
     let g = byte-can (start .args .byte) (start .args .self) (start .args .view) (start .pre .1) e (start .pre .0) (start .pre .2) in
-    (e, g .sayable, g .fits)
+    (e, g .0, g .1)
 
 pub decide-byte-spec : {M : Type 1} → statement M
 decide-byte-spec =

@@ -40,7 +40,7 @@ returns c =
     let g =
     frame-can (start .args .id) (start .args .carried .now) (start .args .self) (start .args .view) (start .pre .1) e
     (start .pre .0) (start .pre .3) in
-    (e, g .sayable, g .fits)
+    (e, g .0, g .1)
 
 returns-2 : tie.Need-returns-2
 unfolding decideFrame connected CC.heard if_gives_else_
@@ -53,7 +53,7 @@ returns-2 c =
     let g =
     frame-can (start .args .id) (start .args .carried .now) (start .args .self) (start .args .view) (start .pre .1) e
     (start .pre .0) (start .pre .3) in
-    (e, g .sayable, g .fits)
+    (e, g .0, g .1)
 
 pub decide-frame-spec : {M : Type 1} → statement M
 decide-frame-spec =
