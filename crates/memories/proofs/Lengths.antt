@@ -5,9 +5,7 @@ use mathlib.Core.List.{List}
 use Prim.Native.Nat.{ℕ}
 use lib.Dec.{T}
 use lib.ListN.{length, take, length-set, length-replicate}
-use lib.Bits.{bitAnd}
 use Rattle.words.specs.Choice.{if_then_else_}
-use Rattle.words.specs.Over.{newer}
 use Rattle.words.proofs.Over.{length-over}
 use Rattle.board.specs.Quantities.{firstIndexed, firstNumbered}
 use Rattle.board.specs.Usd.{protectionOn}
@@ -43,9 +41,9 @@ module _ (staged : List ℕ) (m : Memories) (t : T (proper m)) where
   pub effect-proper : (c : Change) → T (proper (effect c staged m))
   unfolding effect written erasedAll wiped
   effect-proper Nothing = t
-  effect-proper (Write Flash at x) = sized (made (Write Flash at x)) (length-over bitAnd (m .flash) at (take x staged) ∙ flash) sram usd
-  effect-proper (Write Sram at x) = sized (made (Write Sram at x)) flash (length-over newer (m .sram) at (take x staged) ∙ sram) usd
-  effect-proper (Write Usd at x) = sized (made (Write Usd at x)) flash sram (length-over newer (m .usd) at (take x staged) ∙ usd)
+  effect-proper (Write Flash at x) = sized (made (Write Flash at x)) (length-over _ (m .flash) at (take x staged) ∙ flash) sram usd
+  effect-proper (Write Sram at x) = sized (made (Write Sram at x)) flash (length-over _ (m .sram) at (take x staged) ∙ sram) usd
+  effect-proper (Write Usd at x) = sized (made (Write Usd at x)) flash sram (length-over _ (m .usd) at (take x staged) ∙ usd)
   effect-proper EraseAll = sized (made EraseAll) (length-replicate {A = ℕ} 32768 255) sram usd
   effect-proper (EraseSectors x) = sized (made (EraseSectors x)) (length-erased (m .flash) (firstNumbered x staged) ∙ flash) sram usd
   effect-proper (ProtectOnly x) = sized (made (ProtectOnly x)) flash sram (length-only (m .usd) (firstIndexed x staged) ∙ usd)
