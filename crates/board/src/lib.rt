@@ -1,4 +1,6 @@
 // The board: its constants, its regions and sectors, and the view of user system data on which it decides.
+#![tactic(auto)]
+
 pub mod constants;
 pub mod held;
 pub mod quantities;
@@ -9,29 +11,29 @@ ghost use Rattle.std.specs.Prelude.{◌≡◌};
 ghost use Rattle.board.specs.Board.{extent_of};
 
 // The board, whose constants and constructors are in `constants`.
-#[derive(Drop)]
+#[derive(Clone, Copy)]
 pub struct Board;
 
 // A byte address.
-#[derive(Drop)]
+#[derive(Clone, Copy)]
 pub struct Address(pub u32);
 
 // A region's first address and its number of bytes.
-#[derive(Drop)]
+#[derive(Clone, Copy)]
 pub struct Extent {
     pub first: Address,
     pub bytes: usize,
 }
 
 // The sectors of the flash: how many, and how long each is.
-#[derive(Drop)]
+#[derive(Clone, Copy)]
 pub struct Sectors {
     pub count: usize,
     pub bytes: usize,
 }
 
 // The bytes of user system data that have a meaning.
-#[derive(Drop)]
+#[derive(Clone, Copy)]
 pub struct Layout {
     pub protection: usize,
     pub protection_off: u8,
@@ -39,7 +41,7 @@ pub struct Layout {
 }
 
 // The values by which a host tells the board.
-#[derive(Drop)]
+#[derive(Clone, Copy)]
 pub struct Identity {
     pub version: u8,
     pub bid_first: u8,
@@ -49,22 +51,22 @@ pub struct Identity {
 }
 
 // A sector number.
-#[derive(Drop)]
+#[derive(Clone, Copy)]
 pub struct Sector(pub u16);
 
 // A count sent as one less.
-#[derive(Drop)]
+#[derive(Clone, Copy)]
 pub struct LessOne(pub u16);
 
 // What the board may look at when it decides: whether protection is on, and the bytes that hold the sectors' bits.
-#[derive(Drop)]
+#[derive(Clone, Copy)]
 pub struct View {
     pub locked: bool,
     pub bits: [u8; Board::BIT_BYTES],
 }
 
 // The three regions.
-#[derive(Drop)]
+#[derive(Clone, Copy)]
 pub enum Region {
     Flash,
     Sram,
@@ -72,7 +74,7 @@ pub enum Region {
 }
 
 // Where some bytes lie: all in one region, from an offset on, or not.
-#[derive(Drop)]
+#[derive(Clone, Copy)]
 pub enum Place {
     In(Region, usize),
     Nowhere,

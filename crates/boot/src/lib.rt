@@ -1,4 +1,6 @@
 // The calls of the board: its session, the causes of a refusal, and what a call hands back.
+#![tactic(auto)]
+
 pub mod decide;
 pub mod gathering;
 pub mod held;
@@ -14,7 +16,7 @@ ghost use Rattle.boot.specs.Causes.{cause_no};
 pub const ACCEPTED: u8 = 0;
 
 // Why a call is refused, and that it is not.
-#[derive(Drop)]
+#[derive(Clone, Copy)]
 pub enum Cause {
     Accepted,
     WrongMemory,
@@ -25,7 +27,7 @@ pub enum Cause {
 }
 
 // What the board knows of its host between two inputs.
-#[derive(Drop)]
+#[derive(Clone, Copy)]
 pub struct Session {
     pub carrier: u8,
     pub step: u8,
@@ -37,7 +39,7 @@ pub struct Session {
 }
 
 // What a call hands back: the cause's number, the length of the reply, the reason of a NACK in it and the place where it fell, the next session.
-#[derive(Drop)]
+#[derive(Clone, Copy)]
 pub struct Taken {
     pub number: u8,
     pub length: usize,

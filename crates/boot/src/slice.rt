@@ -10,14 +10,14 @@ use crate::{ACCEPTED, Cause, Session, Taken, gathering, take};
 use command::reason::NO_REASON;
 
 // The front of a slice: how many of its bytes were only gathered, and what the call of the byte behind them handed back.
-#[derive(Drop)]
+#[derive(Clone, Copy)]
 pub struct Front {
     pub silent: usize,
     pub taken: Taken,
 }
 
 // What the call of a slice hands back: how many bytes it took, and the rest as a single call does.
-#[derive(Drop)]
+#[derive(Clone, Copy)]
 pub struct TakenBytes {
     pub count: usize,
     pub call: Taken,

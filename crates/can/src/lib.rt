@@ -1,4 +1,6 @@
 // The CAN conversation: its steps, the room for its replies, the ID that they bear, and how frames are gathered.
+#![tactic(auto)]
+
 pub mod held;
 
 ghost use Rattle.std.specs.Prelude.{◌≡◌, not, ◌||◌, ◌+◌, ◌≤◌, ◌<◌, eqb, leb, ltb};
@@ -15,7 +17,7 @@ use board::{Board, LessOne, Sector};
 use command::{Decision, FixedReply, Next, Why, code};
 
 // The steps of the CAN conversation, idle first.
-#[derive(Drop)]
+#[derive(Clone, Copy)]
 pub enum Step {
     Idle,
     WriteData,

@@ -1,4 +1,6 @@
 // What one frame of a connected host decides, step by step.
+#![tactic(auto)]
+
 mod obey;
 
 ghost use Rattle.std.specs.Prelude.{◌≡◌, [], ◌≤◌, ◌<◌, T, length};

@@ -1,4 +1,6 @@
 // The carriers, which steps each has, and what these may expect.
+#![tactic(auto)]
+
 pub mod gather;
 pub mod held;
 
@@ -6,7 +8,7 @@ ghost use Rattle.std.specs.Prelude.{◌≡◌};
 ghost use Rattle.carriers.specs.Carriers.{carrier_no, idle_expects, step_sound};
 
 // What a session is connected to.
-#[derive(Drop)]
+#[derive(Clone, Copy)]
 pub enum Carrier {
     None,
     Uart,

@@ -1,4 +1,6 @@
 // Prints the checksum of "123456789" in hex: the public check value of CRC-32/MPEG-2.
+#![tactic(auto)]
+
 use libc::STDOUT_FILENO;
 
 fn main() {

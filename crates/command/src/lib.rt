@@ -1,4 +1,6 @@
 // Commands, replies, the reasons of a NACK, and decisions.
+#![tactic(auto)]
+
 pub mod code;
 pub mod held;
 pub mod protected;
@@ -11,7 +13,7 @@ use board::Region;
 use memories::Change;
 
 // The commands: the papers' names, where 0x63 and 0x73 are "Erase and Program Protect" and "Unprotect".
-#[derive(Drop)]
+#[derive(Clone, Copy)]
 pub enum Command {
     GetCommands,
     GetVersion,
@@ -30,14 +32,14 @@ pub enum Command {
 }
 
 // The command that a number asks for, if there is one.
-#[derive(Drop)]
+#[derive(Clone, Copy)]
 pub enum Lookup {
     Known(Command),
     Unknown,
 }
 
 // Why a command is refused.
-#[derive(Drop)]
+#[derive(Clone, Copy)]
 pub enum Why {
     // Bad complement of the command, or bad DLC.
     BadComplement,
@@ -56,14 +58,14 @@ pub enum Why {
 }
 
 // Whether a rule lets a command pass.
-#[derive(Drop)]
+#[derive(Clone, Copy)]
 pub enum Verdict {
     Fine,
     No(Why),
 }
 
 // What is told whatever the memories hold.
-#[derive(Drop)]
+#[derive(Clone, Copy)]
 pub enum FixedReply {
     Silence,
     Ack,
@@ -76,7 +78,7 @@ pub enum FixedReply {
 }
 
 // What is answered: what is fixed, or what is read from a memory, whose bytes are named, not held.
-#[derive(Drop)]
+#[derive(Clone, Copy)]
 pub enum Reply {
     Fixed(FixedReply),
     // So many bytes of a region, from an offset on.
@@ -86,7 +88,7 @@ pub enum Reply {
 }
 
 // What becomes of the session.
-#[derive(Drop)]
+#[derive(Clone, Copy)]
 pub enum Next {
     Stay,
     Reset,
@@ -102,7 +104,7 @@ pub enum Next {
 }
 
 // What is decided on an input.
-#[derive(Drop)]
+#[derive(Clone, Copy)]
 pub struct Decision {
     pub reply: Reply,
     pub change: Change,

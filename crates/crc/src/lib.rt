@@ -1,4 +1,6 @@
 // CRC-32/MPEG-2 of bytes, bit by bit: document 01, "CRC".
+#![tactic(auto)]
+
 pub mod held;
 
 ghost use Rattle.std.specs.Prelude.{◌≡◌};

@@ -1,5 +1,7 @@
 // The program desk: lines from standard input, answers to standard output, with reasons where --why asks for them; behind --keep FILE, the board's
 // memories are kept in that file.
+#![tactic(auto)]
+
 use keeping::arguments;
 use libc::{STDERR_FILENO, STDIN_FILENO, STDOUT_FILENO};
 

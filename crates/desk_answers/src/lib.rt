@@ -1,4 +1,6 @@
 // What desk answers to a line, and to a whole input, which specs/ says.
+#![tactic(auto)]
+
 pub mod held;
 
 // The characters that begin an answer.

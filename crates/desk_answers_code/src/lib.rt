@@ -1,4 +1,6 @@
 // Answers one line: makes its calls, prints their replies and why they refused, or tells its number.
+#![tactic(auto)]
+
 mod why;
 
 ghost use Rattle.std.specs.Prelude.{◌≡◌, [], ◌∷◌, map, ◌+◌, ◌*◌, ◌≤◌, ◌<◌, T, length, drop};
@@ -28,14 +30,14 @@ const MOST_BYTES: usize = MOST_CHARACTERS / FIELD;
 const NOTICE_BEGINS: usize = 2;
 
 // What is so after an answer: the session, and where the text ends.
-#[derive(Drop)]
+#[derive(Clone, Copy)]
 pub struct Answered {
     pub session: Session,
     pub end: usize,
 }
 
 // What is so while calls are told: the session, where the text of their replies ends, and where the notes of their NACKs do.
-#[derive(Drop)]
+#[derive(Clone, Copy)]
 pub struct Telling {
     pub session: Session,
     pub end: usize,
@@ -43,7 +45,7 @@ pub struct Telling {
 }
 
 // What is so after the front of some bytes was told, and how many bytes it had.
-#[derive(Drop)]
+#[derive(Clone, Copy)]
 pub struct ToldFront {
     pub told: Telling,
     pub count: usize,

@@ -1,4 +1,6 @@
 // Takes characters in, and answers each line as it ends.
+#![tactic(auto)]
+
 ghost use Rattle.std.specs.Prelude.{◌≡◌, ◌+◌, ◌*◌, ◌^◌, ◌≤◌, ◌<◌, length, take, drop};
 ghost use Rattle.memories.specs.Lent.{were, are};
 ghost use Rattle.desk_answers.specs.Told.{◌then◌};
@@ -15,7 +17,7 @@ pub const KEPT_CHARACTERS: usize = MOST_CHARACTERS + 1;
 
 // What desk knows of its host between two characters: the session, whether it asks for reasons, how many lines were answered, how many characters are
 // kept of the line that has begun, and where the text ends.
-#[derive(Drop)]
+#[derive(Clone, Copy)]
 pub struct Desk {
     pub session: Session,
     pub why: bool,
@@ -25,7 +27,7 @@ pub struct Desk {
 }
 
 // What is so after a line: the desk, and how many characters behind the line were taken with it.
-#[derive(Drop)]
+#[derive(Clone, Copy)]
 pub struct Heard {
     pub desk: Desk,
     pub characters: usize,

@@ -1,4 +1,6 @@
 // Reads a host's lines and writes the answers, over file descriptors: what is read and written is not proved, what is done with it is.
+#![tactic(auto)]
+
 ghost use Rattle.std.specs.Prelude.{◌≡◌, true, false, ◌+◌, ◌^◌, ◌≤◌, ◌<◌, length};
 ghost use Rattle.words.specs.Texts.{characters};
 ghost use Rattle.memories.specs.Lent.{held, were, are};
@@ -20,7 +22,7 @@ const READ_CHARACTERS: usize = 4096;
 const OUT_CHARACTERS: usize = CHARACTER_ROOM * (KEPT_CHARACTERS + READ_CHARACTERS);
 
 // The desk after a read, whether there may be more to read, and whether all that was to be kept and answered could be.
-#[derive(Drop)]
+#[derive(Clone, Copy)]
 pub struct Turned {
     pub desk: Desk,
     pub going: bool,

@@ -1,4 +1,6 @@
 // Lines of frames that a session only gathers, which are taken many at a time.
+#![tactic(auto)]
+
 ghost use Rattle.std.specs.Prelude.{◌≡◌, ◌+◌, ◌≤◌, ◌<◌, length};
 ghost use Rattle.words.specs.Over.{put};
 ghost use Rattle.frames.specs.Frames.{classic};
@@ -14,14 +16,14 @@ use desk_written::first::LINE_FEED;
 const NOD_CHARACTERS: usize = 2;
 
 // A line of a frame that is only gathered: where it ends, and how many data bytes it has; none where the line is another one.
-#[derive(Drop)]
+#[derive(Clone, Copy)]
 pub struct Silent {
     pub end: usize,
     pub count: usize,
 }
 
 // What is so after lines were taken at once: the session, how many lines they were, and how many characters.
-#[derive(Drop)]
+#[derive(Clone, Copy)]
 pub struct Gathered {
     pub session: Session,
     pub lines: u64,

@@ -1,4 +1,6 @@
 // Prints bytes, frames, numbers and texts.
+#![tactic(auto)]
+
 ghost use Rattle.std.specs.Prelude.{◌≡◌, ◌∷◌, ◌+◌, ◌*◌, ◌%◌, ◌≤◌, ◌<◌, length, take};
 ghost use Rattle.words.specs.Hex.{space, field_characters};
 ghost use Rattle.words.specs.Over.{put};

@@ -1,5 +1,7 @@
 // Runs desk on each file that its arguments name, from the fresh board each time, and writes the answers to standard output; behind an argument that
 // asks for reasons, with them.
+#![tactic(auto)]
+
 use libc::STDOUT_FILENO;
 
 // Runs desk on a file, or says why it cannot.

@@ -1,4 +1,6 @@
 // The bytes and the frames that the characters of a line write, and a line that writes a frame at the front of a text.
+#![tactic(auto)]
+
 pub mod first;
 
 ghost use Rattle.std.specs.Prelude.{◌≡◌, ◌+◌, ◌*◌, ◌≤◌, ◌<◌, T, length, get_or, drop};

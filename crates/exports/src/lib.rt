@@ -1,4 +1,6 @@
 // The calls of the board for programs in Rust and C, over slices of bytes that the caller lends.
+#![tactic(auto)]
+
 ghost use Rattle.memories.specs.Lent.{were, are};
 ghost use Rattle.boot.specs.Promise.{given_byte, given_frame, outcome};
 ghost use Rattle.boot.specs.Slices.{given_bytes};

@@ -1,4 +1,6 @@
 // Whole files, read into lent room and written from it. What a file holds no contract says.
+#![tactic(auto)]
+
 ghost use Rattle.std.specs.Prelude.{◌+◌, ◌≤◌, length};
 ghost use Rattle.io.specs.Counts.{IsPrefixLen};
 
@@ -10,7 +12,7 @@ pub const NAME: usize = 4096;
 const PART: usize = 64;
 
 // How many bytes a file has brought, and whether it could not be read.
-#[derive(Drop)]
+#[derive(Clone, Copy)]
 pub struct Got {
     pub length: usize,
     pub failed: bool,

@@ -1,4 +1,6 @@
 // CAN frames: what is one, and what it carries.
+#![tactic(auto)]
+
 pub mod put;
 
 ghost use Rattle.std.specs.Prelude.{◌≡◌, ◌≤◌, ◌<◌, T, length, get_or};

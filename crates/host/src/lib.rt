@@ -1,4 +1,6 @@
 // The host's half of a talk on UART: what a command for a range of flash is, why none is made, and what is told of one.
+#![tactic(auto)]
+
 pub mod held;
 
 ghost use Rattle.std.specs.Prelude.{◌≡◌};
@@ -16,7 +18,7 @@ pub const HEAD: usize = uart::COMPLEMENTED_BYTE + uart::CHECKED_ADDRESS + uart::
 pub const ROOM: usize = HEAD + LARGEST + 1;
 
 // Why no command is made, and that it is not so.
-#[derive(Drop)]
+#[derive(Clone, Copy)]
 pub enum Refusal {
     Accepted,
     WrongImage,
@@ -25,7 +27,7 @@ pub enum Refusal {
 }
 
 // What is told of a command: the refusal's number, its length, and how many bytes of the range it is for.
-#[derive(Drop)]
+#[derive(Clone, Copy)]
 pub struct Made {
     pub number: u8,
     pub length: usize,

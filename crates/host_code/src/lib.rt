@@ -1,4 +1,6 @@
 // Makes the commands of a range of flash one at a time in lent room, and judges their replies.
+#![tactic(auto)]
+
 pub mod judge;
 pub mod parts;
 pub mod putting;

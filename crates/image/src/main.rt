@@ -1,4 +1,6 @@
 // The program image: makes an image of an S-record file. Its arguments are FILE, NEW, SHIFT and, where there is one, OLD.
+#![tactic(auto)]
+
 use image_files::{Shift, arguments, making};
 use libc::STDERR_FILENO;
 

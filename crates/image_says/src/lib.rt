@@ -1,4 +1,6 @@
 // What is said of a file that is loaded: how much, or where and why it is refused.
+#![tactic(auto)]
+
 pub mod counting;
 pub mod held;
 pub mod text;
@@ -9,14 +11,14 @@ ghost use Rattle.loading.specs.Loads.{accepts, answer_to, image_after};
 ghost use Rattle.image_says.specs.Messages.{message_to};
 
 // How many bytes were loaded, and into how many sectors.
-#[derive(Drop)]
+#[derive(Clone, Copy)]
 pub struct Tally {
     pub bytes: usize,
     pub sectors: usize,
 }
 
 // Whether a file was accepted, and how many characters are said of it.
-#[derive(Drop)]
+#[derive(Clone, Copy)]
 pub struct Told {
     pub accepted: bool,
     pub length: usize,

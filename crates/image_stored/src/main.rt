@@ -1,5 +1,7 @@
 // Loads S-record files one after another into one image, and prints what is said of each and the rows that it changed.
 // Its arguments are threes: a file's name, a shift, and how many bytes of the image are lent.
+#![tactic(auto)]
+
 ghost use Rattle.std.specs.Prelude.{◌+◌, ◌^◌, ◌≤◌, ◌<◌, length};
 
 use image_files::{Number, Shift, arguments, making};

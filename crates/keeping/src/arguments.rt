@@ -2,7 +2,7 @@
 ghost use Rattle.io.specs.Counts.{IsPrefixLen};
 
 // How long the name of the file is, which is 0 where none is given, and whether all words are known.
-#[derive(Drop)]
+#[derive(Clone, Copy)]
 pub struct Asked {
     pub length: usize,
     pub known: bool,

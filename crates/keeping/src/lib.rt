@@ -1,4 +1,6 @@
 // Keeps a board's memories in a file, so that a board goes on where it ended. What a file holds no contract says.
+#![tactic(auto)]
+
 pub mod arguments;
 pub mod fresh;
 pub mod held;

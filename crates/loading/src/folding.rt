@@ -9,7 +9,7 @@ use crate::{Cause, Loaded, judging, laying};
 use records::{ends, reading};
 
 // What is wrong with a line behind others, and whether it ends the file.
-#[derive(Drop)]
+#[derive(Clone, Copy)]
 pub struct Taken {
     pub cause: Cause,
     pub end: bool,

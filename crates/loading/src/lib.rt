@@ -1,4 +1,6 @@
 // Loads the S-records of a text into an image of the flash.
+#![tactic(auto)]
+
 pub mod folding;
 pub mod held;
 pub mod judging;
@@ -14,7 +16,7 @@ ghost use Rattle.loading.specs.Loads.{cause_no, accepts, untouched, all_touched}
 use board::Board;
 
 // Where a line's data go.
-#[derive(Drop)]
+#[derive(Clone, Copy)]
 pub enum Place {
     Nothing,
     At(usize),
@@ -22,7 +24,7 @@ pub enum Place {
 }
 
 // Why a file is refused, in the order of the tests.
-#[derive(Drop)]
+#[derive(Clone, Copy)]
 pub enum Cause {
     Accepted,
     WrongLength,
@@ -34,7 +36,7 @@ pub enum Cause {
 }
 
 // The cause, and the number of the line that it has, from 1; 0 where no line has it.
-#[derive(Drop)]
+#[derive(Clone, Copy)]
 pub struct Loaded {
     pub cause: Cause,
     pub line: usize,

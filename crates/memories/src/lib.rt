@@ -1,4 +1,6 @@
 // The changes of the memories, which specs/ says byte by byte, and the staged bytes that tell the rest of one.
+#![tactic(auto)]
+
 pub mod held;
 
 ghost use Rattle.std.specs.Prelude.{◌≡◌};
@@ -13,7 +15,7 @@ pub const STAGED: usize = 257;
 pub const ERASED: u8 = 0xFF;
 
 // What is done to the memories; the bytes written and the sectors named stand among the staged bytes.
-#[derive(Drop)]
+#[derive(Clone, Copy)]
 pub enum Change {
     Nothing,
     // So many staged bytes go into a region, from an offset on.

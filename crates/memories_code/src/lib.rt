@@ -1,4 +1,6 @@
 // Carries a change of the memories out.
+#![tactic(auto)]
+
 ghost use Rattle.std.specs.Prelude.{◌≡◌, [], ◌+◌, ◌≤◌, T, length, take, replicate};
 ghost use Rattle.words.specs.Lists.{all};
 ghost use Rattle.words.specs.Over.{put};

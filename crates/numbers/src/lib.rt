@@ -1,4 +1,6 @@
 // Numbers of four and of eight bytes in a memory, high byte first.
+#![tactic(auto)]
+
 ghost use Rattle.std.specs.Prelude.{◌≡◌, ◌+◌, ◌≤◌, length};
 ghost use Rattle.words.specs.Bytes.{number, four_bytes};
 ghost use Rattle.words.specs.Lists.{part};

@@ -1,5 +1,7 @@
 // The program port: UART bytes from standard input, replies to standard output, two of them in ST's dialect where --st asks for it; behind --keep FILE,
 // the board's memories are kept in that file.
+#![tactic(auto)]
+
 use keeping::arguments;
 use libc::{STDERR_FILENO, STDIN_FILENO, STDOUT_FILENO};
 

@@ -10,7 +10,7 @@ use crate::st;
 use boot::Session;
 
 // The session after some bytes, how many they were, and how long what is said to them is.
-#[derive(Drop)]
+#[derive(Clone, Copy)]
 pub struct Heard {
     pub session: Session,
     pub count: usize,

@@ -1,4 +1,6 @@
 // Reads UART bytes and writes the replies, over file descriptors: what is read and written is not proved, what is done with it is.
+#![tactic(auto)]
+
 pub mod hearing;
 pub mod held;
 pub mod st;
@@ -22,7 +24,7 @@ const READ_BYTES: usize = 4096;
 const OUT_BYTES: usize = uart::ROOM * READ_BYTES;
 
 // The session after a read, whether there may be more to read, and whether all that was to be kept and answered could be.
-#[derive(Drop)]
+#[derive(Clone, Copy)]
 pub struct Turned {
     pub session: Session,
     pub going: bool,

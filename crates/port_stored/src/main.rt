@@ -1,5 +1,7 @@
 // Runs port on each file that its arguments name, from the fresh board each time, and writes the replies to standard output; behind an argument that
 // asks for ST's dialect, in it.
+#![tactic(auto)]
+
 use libc::STDOUT_FILENO;
 
 // Runs port on a file, or says why it cannot.

@@ -1,4 +1,6 @@
 // Reads a lent text line by line: a struct that holds the text and its place, and thin functions over it.
+#![tactic(auto)]
+
 pub mod held;
 
 ghost use Rattle.std.specs.Prelude.{◌≡◌};
@@ -7,14 +9,14 @@ ghost use Rattle.reader.specs.Steps.{step_at, data_from};
 use records::{Line, ends, reading};
 
 // A text and a place in it where a line begins.
-#[derive(Drop)]
+#[derive(Clone, Copy)]
 pub struct Reader<'a> {
     pub text: &'a [u8],
     pub at: usize,
 }
 
 // What is found at a place: a line, where it stops and where the next one begins; or the text's end.
-#[derive(Drop)]
+#[derive(Clone, Copy)]
 pub enum Step {
     Found {
         line: Line,

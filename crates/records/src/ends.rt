@@ -7,7 +7,7 @@ const LINE_FEED: u8 = b'\n';
 const CARRIAGE_RETURN: u8 = b'\r';
 
 // Where a line stops, and where the next one begins.
-#[derive(Drop)]
+#[derive(Clone, Copy)]
 pub struct Span {
     pub stop: usize,
     pub next: usize,

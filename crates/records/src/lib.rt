@@ -1,11 +1,13 @@
 // The lines of a text of S-records: where each ends, what it says, and its data's digits as a part of it.
+#![tactic(auto)]
+
 pub mod digits;
 pub mod ends;
 pub mod held;
 pub mod reading;
 
 // What a line is.
-#[derive(Drop)]
+#[derive(Clone, Copy)]
 pub enum Kind {
     Bad,
     Header,
@@ -15,7 +17,7 @@ pub enum Kind {
 }
 
 // What a line says beside its data: its kind, its address, how many data bytes it has, and whether its checksum is right.
-#[derive(Drop)]
+#[derive(Clone, Copy)]
 pub struct Line {
     pub kind: Kind,
     pub address: u32,

@@ -1,4 +1,6 @@
 // Writes a reply: what is fixed, or what is read from a memory.
+#![tactic(auto)]
+
 pub mod in_bytes;
 pub mod in_frames;
 
@@ -18,7 +20,7 @@ use board::{Board, Region};
 use command::{FixedReply, Reply, code};
 
 // A fixed reply: bytes, of which the first few are the reply, and how many these are.
-#[derive(Drop)]
+#[derive(Clone, Copy)]
 pub struct Fixed {
     pub bytes: [u8; LONGEST],
     pub count: usize,

@@ -1,4 +1,6 @@
 // A session as the bytes that it is lent in: reads it, writes it, and hands it on after a call.
+#![tactic(auto)]
+
 ghost use Rattle.std.specs.Prelude.{◌≡◌, length};
 ghost use Rattle.words.specs.Lists.{part};
 ghost use Rattle.memories.specs.Effects.{staged_bytes};

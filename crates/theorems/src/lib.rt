@@ -1,5 +1,7 @@
 // What is proved of the definitions, and of whatever keeps the calls' promises. Nothing is run here: each function's promise is a statement of specs/,
 // so that a check fails where its proof is missing.
+#![tactic(auto)]
+
 ghost use Rattle.theorems.specs.Talk.{WorkedTalk};
 ghost use Rattle.theorems.specs.Longest.{NoLongerCommand};
 ghost use Rattle.theorems.specs.Reasons.{ReasonsAndPlaces};

@@ -1,4 +1,6 @@
 // The UART conversation: its steps, and the room for its replies.
+#![tactic(auto)]
+
 pub mod held;
 
 ghost use Rattle.std.specs.Prelude.{◌≡◌, leb};
@@ -8,7 +10,7 @@ ghost use Rattle.uart.specs.Conversation.{uart_room};
 use board::{Board, LessOne, Sector};
 
 // The steps of the UART conversation, idle first.
-#[derive(Drop)]
+#[derive(Clone, Copy)]
 pub enum Step {
     Idle,
     ReadAddress,

@@ -1,4 +1,6 @@
 // What one byte of a connected host decides, step by step.
+#![tactic(auto)]
+
 mod address;
 mod checksum;
 mod obey;

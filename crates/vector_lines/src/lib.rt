@@ -1,4 +1,6 @@
 // Reading a vector, and saying what its call left (docs/VECTORS.md).
+#![tactic(auto)]
+
 pub mod report;
 pub mod vector;
 

@@ -1,4 +1,6 @@
 // Makes single calls that vectors describe, each on a session, memories and a reply buffer of its own, and prints what each left (docs/VECTORS.md).
+#![tactic(auto)]
+
 ghost use Rattle.std.specs.Prelude.{◌≤◌, length};
 ghost use Rattle.vector_lines.specs.Sizes.{reply_room};
 

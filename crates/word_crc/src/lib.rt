@@ -1,4 +1,6 @@
 // The checksum of bytes as little-endian 32-bit words, each from its highest byte down: document 02, Wish 3.
+#![tactic(auto)]
+
 pub mod held;
 mod tables;
 

@@ -1,4 +1,6 @@
 // Bytes, the numbers that they write, and slices of them.
+#![tactic(auto)]
+
 ghost use Rattle.std.specs.Prelude.{◌≡◌, [], ◌∷◌, ◌+◌, ◌≤◌, ◌<◌, min, eqb, length, get_or, take, drop, replicate};
 ghost use Rattle.std.specs.Int.Bits.{bit_and};
 ghost use Rattle.words.specs.Bytes.{complement, number, xor_from};

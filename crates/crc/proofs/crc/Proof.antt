@@ -8,4 +8,4 @@ crc_spec =
     tie.close
     (tie.spec
     (λ c κs. search rules)
-    (λ c. c.crc-from.ensures))
+    (λ c. c.crc_from.ensures))

@@ -8,7 +8,7 @@ use Rattle.crc.specs.Crc.{shifted}
 use Rattle.crc.proofs.shift.Statement.{statement}
 use Rattle.crc.proofs.shift.Tie as tie
 
-returns_2 : tie.Need-returns-2
+returns_2 : tie.Need-returns-else-register-ne0
 unfolding shifted
 returns_2 c =
     let start = c.before in

@@ -9,7 +9,7 @@ returns : tie.Need-returns
 returns c =
     let after-short-at = c.before in
     let start = after-short-at.before.before in
-    rw (after-short-at.short-at.ensures, c.short-at2.ensures) (eight_at start.args.memory.now start.args.at (omega arith))
+    rw (after-short-at.short_at.ensures, c.short_at-2.ensures) (eight_at start.args.memory.now start.args.at (omega arith))
 
 pub long_at_spec : {M : Type 1} → statement M
 long_at_spec =

@@ -16,10 +16,10 @@ returns c =
     let after-put-short2 = c.before.before in
     let after-put-short = after-put-short2.before.before.before.before in
     let start = after-put-short.before.before.before in
-    let m = start.args.memory.now in
+    let m = start.args.memory-1.now in
     let at = start.args.at in
     let n = start.args.n in (
-      rw (after-put-short2.put-short2.ensures.0, after-put-short.put-short.ensures.0)
+      rw (after-put-short2.put_short-2.ensures.0, after-put-short.put_short.ensures.0)
           (put_then m at (at + 4) (four_bytes (n / 4294967296)) (four_bytes (n % 4294967296)) refl ∙ ap (λ (b : List ℕ). put m at b)
           (halves n)),
       number_bytes 8 n (omega arith),

@@ -13,7 +13,7 @@ use Rattle.word_crc.proofs.Words.{word_taken, rest_stays}
 use Rattle.word_crc.proofs.take_rest.Statement.{statement}
 use Rattle.word_crc.proofs.take_rest.Tie as tie
 
-returns : tie.Need-returns
+returns : tie.Need-returns-then-from-bytes
 unfolding word_fed
 returns c =
     let after-shift-word = c.before.before in
@@ -23,17 +23,17 @@ returns c =
     let s = start.args.bytes.now in
     let r = start.args.register in
     let i = start.args.from in
-    let b : (j : ℕ) → get_or s j 0 < 256 = λ j. omega (arith, after-shared-slice-known.shared-slice-known.given j) in
-    let e : after-shift-word.shift_word.result ≡ word_fed r (word_at i s) =
-    after-shift-word.shift_word.ensures ∙ ap (λ (w : ℕ). shifted_by 32 (bit_xor r w)) after-word.word.ensures in
-    c.crc-from.ensures ∙ ap₂ crc_from e (rest_stays s (i + 4) (omega arith) (omega arith)) ∙ sym
+    let b : (j : ℕ) → get_or s j 0 < 256 = λ j. omega (arith, after-shared-slice-known.shared_slice_known-1.given j) in
+    let e : after-shift-word.shift_word-sum.result ≡ word_fed r (word_at i s) =
+    after-shift-word.shift_word-sum.ensures ∙ ap (λ (w : ℕ). shifted_by 32 (bit_xor r w)) after-word.word.ensures in
+    c.crc_from.ensures ∙ ap₂ crc_from e (rest_stays s (i + 4) (omega arith) (omega arith)) ∙ sym
     (word_taken s r i b (omega arith) (omega arith))
 
-returns_2 : tie.Need-returns-2
+returns_2 : tie.Need-returns-else-from-bytes
 unfolding word_fed
 returns_2 c =
     let start = c.before.before.before.before in
-    c.crc-from2.ensures ∙ ap (λ (l : List ℕ). crc_from start.args.register l)
+    c.crc_from-else-from-bytes.ensures ∙ ap (λ (l : List ℕ). crc_from start.args.register l)
     (rest_stays start.args.bytes.now start.args.from (omega arith) (omega arith))
 
 pub take_rest_spec : {M : Type 1} → statement M

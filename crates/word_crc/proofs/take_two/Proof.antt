@@ -11,7 +11,7 @@ returns : tie.Need-returns
 returns c =
     let after-shift-word = c.before in
     let start = after-shift-word.before in
-    ap₂ bit_xor after-shift-word.shift_word.ensures c.shift-word2.ensures ∙ sym
+    ap₂ bit_xor after-shift-word.shift_word.ensures c.shift_word-2.ensures ∙ sym
     (two_in start.args.register start.args.first start.args.second (omega arith) (omega arith) (omega arith))
 
 pub take_two_spec : {M : Type 1} → statement M

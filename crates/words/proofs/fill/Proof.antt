@@ -8,18 +8,18 @@ use Rattle.words.proofs.Over.{over_none, over_again}
 use Rattle.words.proofs.fill.Statement.{statement}
 use Rattle.words.proofs.fill.Tie as tie
 
-abbrev invariant_loop : tie.invariant-loop
+abbrev invariant_loop : tie.invariant-loop-i
 invariant_loop memory₀ at n byte i₀ memory i = (i ≤ n) × (memory ≡ put memory₀ at (replicate i byte)) × (length memory ≡ length memory₀)
 
-abbrev decreases_loop : tie.decreases-loop
+abbrev decreases_loop : tie.decreases-loop-i
 decreases_loop memory₀ at n byte i₀ memory i = n - i
 
-loop_again : tie.Need-loop-preserved invariant_loop decreases_loop
+loop_again : tie.Need-loop-i-preserved invariant_loop decreases_loop
 loop_again c =
     let at-loop = c.before in
     let start = at-loop.before in (
       omega arith,
-      rw at-loop.loop.invariant.1 (over_again newer start.args.memory.now start.args.at start.args.byte at-loop.loop.i
+      rw at-loop.loop-i.invariant.1 (over_again newer start.args.memory.now start.args.at start.args.byte at-loop.loop-i.i
           (omega arith)),
       simp length-set (omega arith),
     )
@@ -37,4 +37,4 @@ fill_spec =
     (λ c. omega arith)
     loop_again
     (λ c. omega arith)
-    (λ c. let e : c.before.loop.i ≡ c.before.before.args.n = omega arith in cc))
+    (λ c. let e : c.before.loop-i.i ≡ c.before.before.args.n = omega arith in cc))

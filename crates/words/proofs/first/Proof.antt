@@ -10,4 +10,4 @@ first_spec =
     tie.close
     (tie.spec
     (λ c. search rules)
-    (λ c. (refl, omega (arith, c.shared-slice-known.given 0))))
+    (λ c. (refl, omega (arith, c.shared_slice_known-1.given 0))))

@@ -9,6 +9,6 @@ offset_spec =
     tie.close
     (tie.spec
     (λ c κs. search rules)
-    (λ c. rw (← c.before.extent.ensures) (omega arith))
+    (λ c. rw (← c.before.extent-extent.ensures) (omega arith))
     (λ c. search rules)
-    (λ c. rw (← c.before.extent.ensures)))
+    (λ c. rw (← c.before.extent-extent.ensures)))

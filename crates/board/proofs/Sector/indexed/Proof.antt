@@ -9,5 +9,5 @@ indexed_spec =
     tie.close
     (tie.spec
     (λ c. search rules)
-    (λ c. omega (arith, c.shared-slice-known.given c.before.args.at))
+    (λ c. omega (arith, c.shared_slice_known-1.given c.before.args.at))
     (λ c. search rules))

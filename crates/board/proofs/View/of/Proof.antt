@@ -10,7 +10,7 @@ returns : tie.Need-returns
 unfolding view_of
 returns c =
     let start = c.before.before.before.before.before.before in
-    λ i. record { locked = c.protection-on.ensures i; bits = four_bytes start.args.usd.now (omega arith) i }
+    λ i. record { locked = c.protection_on.ensures i; bits = four_bytes start.args.usd.now (omega arith) i }
 
 pub of_spec : {M : Type 1} → statement M
 of_spec =

@@ -17,4 +17,4 @@ write_protected_spec =
     (λ c. let h = ltb→lt c.before.before.before.args.sector.0 32 c.before.before.before.requires in omega arith)
     (λ c. search rules)
     (λ c. search rules)
-    (λ c. rw (← c.before.bit-index.ensures, ← c.bit-place.ensures, and_mask _ 1)))
+    (λ c. rw (← c.before.bit_index-byte.ensures, ← c.bit_place-bit.ensures, and_mask _ 1)))

@@ -4,23 +4,23 @@ use mathlib.Core.Path.{sym, ◌∙◌}
 use Rattle.board.proofs.range.jumpable.Statement.{statement}
 use Rattle.board.proofs.range.jumpable.Tie as tie
 
-returns : tie.Need-returns
+returns : tie.Need-returns-in-Flash
 returns c =
     let after-found = c.before.before.before in
     let after-place = after-found.before.before in
-    rw (sym after-place.place.ensures ∙ after-found.found.given.1, c.enum_told.given.1)
+    rw (sym after-place.place-found.ensures ∙ after-found.found-1.given.1, c.enum_told-1.given.1)
 
-returns_2 : tie.Need-returns-2
+returns_2 : tie.Need-returns-in-Sram
 returns_2 c =
     let after-found = c.before.before.before in
     let after-place = after-found.before.before in
-    rw (sym after-place.place.ensures ∙ after-found.found.given.1, c.enum-told2.given.1)
+    rw (sym after-place.place-found.ensures ∙ after-found.found-1.given.1, c.enum_told-in-Sram-1.given.1)
 
-returns_3 : tie.Need-returns-3
+returns_3 : tie.Need-returns-in-Usd
 returns_3 c =
     let after-found = c.before.before.before in
     let after-place = after-found.before.before in
-    rw (sym after-place.place.ensures ∙ after-found.found.given.1, c.enum-told3.given.1)
+    rw (sym after-place.place-found.ensures ∙ after-found.found-1.given.1, c.enum_told-in-Usd-1.given.1)
 
 pub jumpable_spec : {M : Type 1} → statement M
 jumpable_spec =
@@ -35,4 +35,4 @@ jumpable_spec =
     returns
     returns_2
     returns_3
-    (λ c. rw (sym c.before.before.place.ensures ∙ c.enum-told4.given.1)))
+    (λ c. rw (sym c.before.before.place-found.ensures ∙ c.enum_told-in-Nowhere-1.given.1)))

@@ -11,5 +11,5 @@ known_spec =
     (λ c κs. search rules)
     (λ c. search rules)
     (λ c. search rules)
-    (λ c. rw (sym c.before.before.place.ensures ∙ c.enum_told.given.1))
-    (λ c. rw (sym c.before.before.place.ensures ∙ c.enum-told2.given.1)))
+    (λ c. rw (sym c.before.before.place-found.ensures ∙ c.enum_told-1.given.1))
+    (λ c. rw (sym c.before.before.place-found.ensures ∙ c.enum_told-in-Nowhere-1.given.1)))

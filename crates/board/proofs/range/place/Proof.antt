@@ -5,16 +5,16 @@ use Rattle.board.specs.Regions.{place_of}
 use Rattle.board.proofs.range.place.Statement.{statement}
 use Rattle.board.proofs.range.place.Tie as tie
 
-returns_2 : tie.Need-returns-2
+returns_2 : tie.Need-returns-then-in_sram
 unfolding place_of
 returns_2 c =
     let then2 = c.before in
     let after-holds2 = then2.before in
     let else1 = after-holds2.before in
     let after_holds = else1.before in
-    rw (sym after_holds.holds.ensures ∙ else1.if1.false, sym after-holds2.holds2.ensures ∙ then2.if2.true, c.offset2.ensures)
+    rw (sym after_holds.holds-in_flash.ensures ∙ else1.if-in_flash.false, sym after-holds2.holds-in_sram.ensures ∙ then2.if-in_sram.true, c.offset-then-in_sram.ensures)
 
-returns_3 : tie.Need-returns-3
+returns_3 : tie.Need-returns-then-in_usd
 unfolding place_of
 returns_3 c =
     let then3 = c.before in
@@ -24,13 +24,13 @@ returns_3 c =
     let else1 = after-holds2.before in
     let after_holds = else1.before in
     rw (
-      sym after_holds.holds.ensures ∙ else1.if1.false,
-      sym after-holds2.holds2.ensures ∙ else2.if2.false,
-      sym after-holds3.holds3.ensures ∙ then3.if3.true,
-      c.offset3.ensures,
+      sym after_holds.holds-in_flash.ensures ∙ else1.if-in_flash.false,
+      sym after-holds2.holds-in_sram.ensures ∙ else2.if-in_sram.false,
+      sym after-holds3.holds-in_usd.ensures ∙ then3.if-in_usd.true,
+      c.offset-then-in_usd.ensures,
     )
 
-returns_4 : tie.Need-returns-4
+returns_4 : tie.Need-returns
 unfolding place_of
 returns_4 c =
     let after-holds3 = c.before in
@@ -39,9 +39,9 @@ returns_4 c =
     let else1 = after-holds2.before in
     let after_holds = else1.before in
     rw (
-      sym after_holds.holds.ensures ∙ else1.if1.false,
-      sym after-holds2.holds2.ensures ∙ else2.if2.false,
-      sym after-holds3.holds3.ensures ∙ c.if3.false,
+      sym after_holds.holds-in_flash.ensures ∙ else1.if-in_flash.false,
+      sym after-holds2.holds-in_sram.ensures ∙ else2.if-in_sram.false,
+      sym after-holds3.holds-in_usd.ensures ∙ c.if-in_usd.false,
     )
 
 pub place_spec : {M : Type 1} → statement M
@@ -51,7 +51,7 @@ place_spec =
     (tie.spec
     (λ c κs. search rules)
     (λ c κs. search rules)
-    (λ c. rw (sym c.before.before.holds.ensures ∙ c.before.if1.true, c.offset.ensures))
+    (λ c. rw (sym c.before.before.holds-in_flash.ensures ∙ c.before.if-in_flash.true, c.offset.ensures))
     (λ c κs. search rules)
     (λ c κs. search rules)
     returns_2
