@@ -16,7 +16,7 @@ returns c =
     let after-put-short2 = c.before.before in
     let after-put-short = after-put-short2.before.before.before.before in
     let start = after-put-short.before.before.before in
-    let m = start.args.memory-1.now in
+    let m = start.args.memory.now in
     let at = start.args.at in
     let n = start.args.n in (
       rw (after-put-short2.put_short-2.ensures.0, after-put-short.put_short.ensures.0)

@@ -5,8 +5,8 @@ use mathlib.Core.Path.{◌≡◌, ◌∙◌}
 use lib.ListN.{length-set}
 use Prim.Native.Nat.{◌≤◌, ◌-◌, ◌^◌}
 use Rattle.word_crc.proofs.Entries.{Growing, no_bit, bit_more, all_bits, bit_fits}
-use Rattle.word_crc.proofs.tables-1.fill.Statement.{statement}
-use Rattle.word_crc.proofs.tables-1.fill.Tie as tie
+use Rattle.word_crc.proofs.tables.fill.Statement.{statement}
+use Rattle.word_crc.proofs.tables.fill.Tie as tie
 
 abbrev invariant_loop : tie.invariant-loop
 invariant_loop tables₀ at first bit₀ n₀ counter₀ tables bit n counter = (counter ≤ 8) × Growing at first counter tables₀ tables bit n
@@ -20,13 +20,13 @@ double_requires c κs =
     let start = at-loop.before.before in
     omega (
       arith,
-      length-set start.args.tables-1.now start.args.at 0,
+      length-set start.args.tables.now start.args.at 0,
       at-loop.loop.invariant.1.size,
       at-loop.loop.invariant.1.power,
       bit_fits at-loop.loop.counter (omega arith),
     )
 
-add_n : tie.Need-overflow-add-n invariant_loop decreases_loop
+add_n : tie.Need-overflow_add-n invariant_loop decreases_loop
 add_n c =
     let at-loop = c.before.before.before.before.before.before in
     omega (arith, at-loop.loop.invariant.1.power, bit_fits at-loop.loop.counter (omega arith))
@@ -49,12 +49,12 @@ fill_spec =
     decreases_loop
     (λ c. omega arith)
     (λ c. omega arith)
-    (λ c. (omega arith, no_bit c.before.args.at c.before.args.first c.before.args.tables-1.now (omega arith)))
+    (λ c. (omega arith, no_bit c.before.args.at c.before.args.first c.before.args.tables.now (omega arith)))
     double_requires
     (λ c κs. search rules)
     add_n
     (λ c. omega arith)
     (λ c. omega arith)
     loop_again
-    (λ c. c.before.loop.invariant.1.size ∙ length-set c.before.before.before.args.tables-1.now c.before.before.before.args.at 0)
+    (λ c. c.before.loop.invariant.1.size ∙ length-set c.before.before.before.args.tables.now c.before.before.before.args.at 0)
     (λ c. let e : c.before.loop.counter ≡ 8 = omega arith in all_bits _ _ _ _ _ _ (rw e at c.before.loop.invariant.1)))

@@ -5,8 +5,8 @@ use mathlib.Core.Path.{◌≡◌, sym}
 use Prim.Native.Nat.{ℕ, ◌≤◌, ◌-◌}
 use lib.ListN.{length-replicate}
 use Rattle.word_crc.proofs.Entries.{Begun, table_more}
-use Rattle.word_crc.proofs.tables-1.tables-1.Statement.{statement}
-use Rattle.word_crc.proofs.tables-1.tables-1.Tie as tie
+use Rattle.word_crc.proofs.tables.tables.Statement.{statement}
+use Rattle.word_crc.proofs.tables.tables.Tie as tie
 
 abbrev invariant_loop : tie.invariant-loop-m
 invariant_loop tables₀ first₀ m₀ tables first m = (m ≤ 8) × Begun m tables first
