@@ -1,6 +1,6 @@
 -- Protection, sector by sector: after 0x63 exactly the named sectors are write-protected, after 0x73 none is.
 use mathlib.Core.Path.{◌≡◌, refl, sym, ap, ◌∙◌}
-use mathlib.Core.Bool.{Bool, true, false, ◌&&◌, ◌||◌, or_false, or-true, or_assoc}
+use mathlib.Core.Bool.{Bool, true, false, ◌&&◌, ◌||◌, or-false, or-true, or_assoc}
 use mathlib.Core.List.{List, [], ◌∷◌}
 use mathlib.Core.Logic.{⊎_elim}
 use Prim.Native.Nat.{ℕ, zero, suc, ◌+◌, ◌-◌, ◌/◌, ◌%◌, ◌^◌, ◌<◌}
@@ -63,7 +63,7 @@ masked x s b hs hb = rw (and_bit x (255 - 2 ^ s) b, mask_bit s b hs hb) (by_test
     by_test true = rw (and_zero_r (bit x b)) (sym (or-true (eqb (bit x b) 0)))
     by_test false =
         let y : bit x b % 2 ≡ bit x b = omega arith in
-        rw (and_mask (bit x b) 1, y) (sym (or_false (eqb (bit x b) 0)))
+        rw (and_mask (bit x b) 1, y) (sym (or-false (eqb (bit x b) 0)))
 
 -- protecting a sector too protects it, and changes nothing for any other
 also_protected_lem : (u : List ℕ) (j k : Sector) → length u ≡ 64 → j.0 < 32 → k.0 < 32
@@ -81,7 +81,7 @@ also_protected_lem u j k l hj hk =
     by_byte false e =
         let n = eqb-false (j.0 / 8) (k.0 / 8) e in
         let o = get_or-set_other u (8 + j.0 / 8) (8 + k.0 / 8) (bit_and (get_or u (8 + j.0 / 8) 0) m) 0 (λ q. n (omega arith)) in
-        rw (o, ne_eqb j.0 k.0 (λ q. n (ap (λ (z : ℕ). z / 8) q))) (sym (or_false (eqb (bit (get_or u (8 + k.0 / 8) 0) (k.0 % 8)) 0)))
+        rw (o, ne_eqb j.0 k.0 (λ q. n (ap (λ (z : ℕ). z / 8) q))) (sym (or-false (eqb (bit (get_or u (8 + k.0 / 8) 0) (k.0 % 8)) 0)))
     by_byte true e =
         let q : j.0 / 8 ≡ k.0 / 8 = eqb-true (j.0 / 8) (k.0 / 8) e in
         let v = get_or-set_same u (8 + k.0 / 8) (bit_and (get_or u (8 + k.0 / 8) 0) m) 0 (omega arith) in
@@ -106,7 +106,7 @@ length_also u j = simp length-set
 
 all_protected_lem : (u : List ℕ) (ks : List Sector) (k : Sector) → length u ≡ 64 → T (all is_sector ks) → k.0 < 32
     → write_protected (view_of (all_protected u ks)) k ≡ (write_protected (view_of u) k || named ks k)
-all_protected_lem u [] k l t h = sym (or_false (write_protected (view_of u) k))
+all_protected_lem u [] k l t h = sym (or-false (write_protected (view_of u) k))
 all_protected_lem u (j ∷ ks) k l t h =
     let hj : j.0 < 32 = ltb→lt j.0 32 (both_left (is_sector j) (all is_sector ks) t) in
     all_protected_lem (also_protected u j) ks k (length_also u j ∙ l) (both_right (is_sector j) (all is_sector ks) t) h

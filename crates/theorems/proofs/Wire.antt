@@ -1,7 +1,7 @@
 -- What a host sees tells what was decided. A CRC value, bytes that are read, and an ACK with a NACK behind it are each the answer to one command alone,
 -- and every other reply is known by its bytes; a Firmware CRC is answered with its value or with a NACK.
 use mathlib.Core.Path.{◌≡◌, refl, sym, ap, ap₂, ◌∙◌, subst}
-use mathlib.Core.Bool.{Bool, true, false, not, ◌&&◌, ◌||◌, and_false, or_comm}
+use mathlib.Core.Bool.{Bool, true, false, not, ◌&&◌, ◌||◌, and-false, or_comm}
 use mathlib.Core.List.{List, [], ◌∷◌}
 use Prim.Native.Nat.{ℕ}
 use native.Mathlib.Omega.{arith}
@@ -213,8 +213,8 @@ sum_seen i s (Fixed Silence) m h f = never (is_sum i s) _ f
 sum_seen i s (Fixed Ack) m h f = never (is_sum i s) _ f
 sum_seen i s (Fixed AckAck) m h f = never (is_sum i s) _ f
 sum_seen Power s (Fixed (Nack w)) m h f = refl
-sum_seen (Byte room b) s (Fixed (Nack w)) m h f = and_false (is_sum (Byte room b) s)
-sum_seen (Framed room l) s (Fixed (Nack w)) m h f = and_false (is_sum (Framed room l) s)
+sum_seen (Byte room b) s (Fixed (Nack w)) m h f = and-false (is_sum (Byte room b) s)
+sum_seen (Framed room l) s (Fixed (Nack w)) m h f = and-false (is_sum (Framed room l) s)
 sum_seen i s (Fixed (AckNack w)) m h f = never (is_sum i s) _ f
 sum_seen i s (Fixed Commands) m h f = never (is_sum i s) _ f
 sum_seen i s (Fixed Version) m h f = never (is_sum i s) _ f

@@ -9,5 +9,5 @@ dlc_spec =
     tie.close
     (tie.spec
     (λ c. search rules)
-    (λ c. omega (arith, c.shared-slice-known.given 2))
+    (λ c. omega (arith, c.shared_slice_known-1.given 2))
     (λ c. search rules))

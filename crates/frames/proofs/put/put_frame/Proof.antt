@@ -12,7 +12,7 @@ returns c =
     let after-copy2 = after-fill.before.before.before.before in
     let after-copy = after-copy2.before.before.before.before in
     let start = after-copy.before.before.before.before.before in
-    after-fill.fill.ensures ∙ rw (after-copy2.copy2.ensures, after-copy.copy.ensures)
+    after-fill.fill.ensures ∙ rw (after-copy2.copy-2.ensures, after-copy.copy.ensures)
     (frame_written_lem start.args.buffer.now start.args.at start.args.id start.args.size start.args.bytes.now
     (omega arith))
 
