@@ -1,12 +1,12 @@
 -- The three memories as a contract sees them: before a call, and as the call begins and returns.
 use Rattle.std.specs.Prelude.{ℕ, List}
-use Rattle.std.specs.Borrow.{Bor}
+use Rattle.std.specs.Borrow.{MutBor}
 use denote.Triple.Both.{Both}
 use Rattle.memories.specs.Memories.{Memories, memories}
 
--- a slice that is lent, and the same at both ends of a call
+-- a slice that is lent to be changed, and the same at both ends of a call
 abbrev pub Slice : Type 0
-Slice = Bor (List ℕ)
+Slice = MutBor (List ℕ)
 
 abbrev pub Lent : Type 0
 Lent = Both Slice Slice

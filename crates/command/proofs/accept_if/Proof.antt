@@ -11,5 +11,5 @@ accept_if_spec =
     tie.close
     (tie.spec
     (λ c κs. search rules)
-    (λ c. rw c.if1.true refl)
-    (λ c. rw c.before.if1.false c.nack.ensures))
+    (λ c. rw c.if-good.true refl)
+    (λ c. rw c.before.if-good.false c.nack.ensures))

@@ -16,22 +16,22 @@ write_requires c κs =
     let h = write_fits start.args.change start.args.staged.now start.requires.1 _ _ _ after-change.change.given.1 in
     (start.requires.0, h.0, h.1)
 
-erase_sectors_requires : tie.Need-erase-sectors-requires
+erase_sectors_requires : tie.Need-erase_sectors-requires
 erase_sectors_requires c κs =
     let after-change2 = c.before.before.before in
     let start = after-change2.before.before.before.before.before in
-    let h = erase_fits start.args.change start.args.staged.now start.requires.1 _ after-change2.change2.given.1 in (
+    let h = erase_fits start.args.change start.args.staged.now start.requires.1 _ after-change2.change-in-EraseSectors-1.given.1 in (
       proper_length (memories start.args.flash.now start.args.sram.now start.args.usd.now) start.requires.0 Flash,
       h.0,
       omega arith,
       h.1,
     )
 
-protect_only_requires : tie.Need-protect-only-requires
+protect_only_requires : tie.Need-protect_only-requires
 protect_only_requires c κs =
     let after-change3 = c.before.before.before in
     let start = after-change3.before.before.before.before.before in
-    let h = protect_fits start.args.change start.args.staged.now start.requires.1 _ after-change3.change3.given.1 in (
+    let h = protect_fits start.args.change start.args.staged.now start.requires.1 _ after-change3.change-in-ProtectOnly-1.given.1 in (
       proper_length (memories start.args.flash.now start.args.sram.now start.args.usd.now) start.requires.0 Usd,
       omega arith,
       h.1,
@@ -47,31 +47,31 @@ lock_requires c κs =
     let start = c.before.before.before.before.before.before in
     proper_length (memories start.args.flash.now start.args.sram.now start.args.usd.now) start.requires.0 Usd
 
-returns_2 : tie.Need-returns-2
+returns_2 : tie.Need-returns-in-Write
 unfolding effect erased_all
 returns_2 c =
     let after_write = c.before.before.before.before.before.before in
     let after-change = after_write.before.before.before.before.before in
     rw after-change.change.given.1 after_write.write.ensures
 
-returns_3 : tie.Need-returns-3
+returns_3 : tie.Need-returns-in-EraseAll
 unfolding effect erased_all
 returns_3 c =
     let after-fill-all = c.before.before in
     let after-enum-told2 = after-fill-all.before.before in
     let start = after-enum-told2.before.before.before.before.before in
     rw (
-      after-enum-told2.enum-told2.given.1,
-      after-fill-all.fill-all.ensures,
+      after-enum-told2.enum_told-in-EraseAll-1.given.1,
+      after-fill-all.fill_all.ensures,
       proper_length (memories start.args.flash.now start.args.sram.now start.args.usd.now) start.requires.0 Flash,
     )
 
-returns_8 : tie.Need-returns-8
+returns_8 : tie.Need-returns-in-Unlock
 unfolding effect erased_all
 returns_8 c =
     let after-unlock = c.before.before.before.before.before.before in
     let after-enum-told5 = after-unlock.before.before.before.before in
-    rw after-enum-told5.enum-told5.given.1 after-unlock.unlock.ensures
+    rw after-enum-told5.enum_told-in-Unlock-1.given.1 after-unlock.unlock.ensures
 
 pub carry_out_spec : {M : Type 1} → statement M
 unfolding effect erased_all
@@ -93,7 +93,7 @@ carry_out_spec =
     lock_requires
     (λ c. search rules)
     (λ c κs. search rules)
-    (λ c. rw c.enum_told.given.1)
+    (λ c. rw c.enum_told-1.given.1)
     (λ c. search rules)
     (λ c. search rules)
     (λ c. search rules)
@@ -101,13 +101,13 @@ carry_out_spec =
     (λ c. search rules)
     returns_3
     (λ c. search rules)
-    (λ c. rw (c.before.before.before.before.before.before.change2.given.1, c.before.before.erase-sectors.ensures))
+    (λ c. rw (c.before.before.before.before.before.before.change-in-EraseSectors-1.given.1, c.before.before.erase_sectors.ensures))
     (λ c. search rules)
-    (λ c. rw (c.before.before.before.before.before.before.change3.given.1, c.before.before.protect-only.ensures))
+    (λ c. rw (c.before.before.before.before.before.before.change-in-ProtectOnly-1.given.1, c.before.before.protect_only.ensures))
     (λ c. search rules)
-    (λ c. rw (c.before.before.before.before.enum-told3.given.1, c.before.before.release.ensures))
+    (λ c. rw (c.before.before.before.before.enum_told-in-Release-1.given.1, c.before.before.release.ensures))
     (λ c. search rules)
-    (λ c. rw (c.before.before.before.before.enum-told4.given.1, c.before.before.lock.ensures))
+    (λ c. rw (c.before.before.before.before.enum_told-in-Lock-1.given.1, c.before.before.lock.ensures))
     (λ c. search rules)
     (λ c. search rules)
     (λ c. search rules)

@@ -13,7 +13,7 @@ use Rattle.memories_code.proofs.Lists.{all_numbered, erased_numbered}
 use Rattle.memories_code.proofs.erase_sectors.Statement.{statement}
 use Rattle.memories_code.proofs.erase_sectors.Tie as tie
 
-abbrev invariant_loop : tie.invariant-loop
+abbrev invariant_loop : tie.invariant-loop-j
 invariant_loop flash₀ staged x end j₀ flash j =
     (j ≤ end)
     × (j % 2 ≡ 0)
@@ -21,23 +21,23 @@ invariant_loop flash₀ staged x end j₀ flash j =
     × T (all is_sector (numbered (slice j end staged)))
     × (erased flash (numbered (slice j end staged)) ≡ erased flash₀ (numbered (take end staged)))
 
-abbrev decreases_loop : tie.decreases-loop
+abbrev decreases_loop : tie.decreases-loop-j
 decreases_loop flash₀ staged x end j₀ flash j = end - j
 
-erase_sector_requires : tie.Need-erase-sector-requires invariant_loop decreases_loop
+erase_sector_requires : tie.Need-erase_sector-requires invariant_loop decreases_loop
 erase_sector_requires c κs =
     let at-loop = c.before.before.before in
     let start = at-loop.before.before.before in
     let s = start.args.staged.now in
     let m = 2 * start.args.x in
-    let j = at-loop.loop.j in
+    let j = at-loop.loop-j.j in
     let st = all_numbered s j m (omega arith) (omega arith) in (
       omega arith,
       rw c.numbered.ensures (both_left (is_sector (numbered_at s j)) (all is_sector (numbered (slice (j + 2) m s)))
-          (subst T st at-loop.loop.invariant.3)),
+          (subst T st at-loop.loop-j.invariant.3)),
     )
 
-loop_again : tie.Need-loop-preserved invariant_loop decreases_loop
+loop_again : tie.Need-loop-j-preserved invariant_loop decreases_loop
 loop_again c =
     let after-erase-sector = c.before.before in
     let after-numbered = after-erase-sector.before in
@@ -45,22 +45,22 @@ loop_again c =
     let start = at-loop.before.before.before in
     let s = start.args.staged.now in
     let m = 2 * start.args.x in
-    let j = at-loop.loop.j in
+    let j = at-loop.loop-j.j in
     let st = all_numbered s j m (omega arith) (omega arith) in
-    let er = erased_numbered s j m (omega arith) (omega arith) at-loop.loop.flash in (
+    let er = erased_numbered s j m (omega arith) (omega arith) at-loop.loop-j.flash in (
       omega arith,
       omega arith,
       omega arith,
-      both_right (is_sector (numbered_at s j)) (all is_sector (numbered (slice (j + 2) m s))) (subst T st at-loop.loop.invariant.3),
-      rw (after-erase-sector.erase-sector.ensures, after-numbered.numbered.ensures) (sym er ∙ at-loop.loop.invariant.4),
+      both_right (is_sector (numbered_at s j)) (all is_sector (numbered (slice (j + 2) m s))) (subst T st at-loop.loop-j.invariant.3),
+      rw (after-erase-sector.erase_sector.ensures, after-numbered.numbered.ensures) (sym er ∙ at-loop.loop-j.invariant.4),
     )
 
 returns : tie.Need-returns invariant_loop decreases_loop
 returns c =
     let at-loop = c.before in
     let start = at-loop.before.before.before in
-    let e : at-loop.loop.j ≡ 2 * start.args.x = omega arith in
-    rw (e, slice_empty) at at-loop.loop.invariant.4
+    let e : at-loop.loop-j.j ≡ 2 * start.args.x = omega arith in
+    rw (e, slice_empty) at at-loop.loop-j.invariant.4
 
 pub erase_sectors_spec : {M : Type 1} → statement M
 erase_sectors_spec =

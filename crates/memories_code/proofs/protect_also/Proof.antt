@@ -15,9 +15,9 @@ unfolding also_protected
 returns c =
     let after-bit-place = c.before in
     let after-bit-index = after-bit-place.before in
-    let b = after-bit-place.bit-place.result in
+    let b = after-bit-place.bit_place-bit.result in
     let e : 1 * 2 ^ b % 256 ≡ 2 ^ b = ap (λ (x : ℕ). x % 256) (one-mul (2 ^ b)) ∙ mod-eq_of_lt (pow-lt {j = 8} (omega arith)) in
-    rw (← after-bit-index.bit-index.ensures, ← after-bit-place.bit-place.ensures, e)
+    rw (← after-bit-index.bit_index-byte.ensures, ← after-bit-place.bit_place-bit.ensures, e)
 
 pub protect_also_spec : {M : Type 1} → statement M
 unfolding also_protected

@@ -14,30 +14,30 @@ use Rattle.memories_code.proofs.Lists.{all_indexed, protected_indexed}
 use Rattle.memories_code.proofs.protect_only.Statement.{statement}
 use Rattle.memories_code.proofs.protect_only.Tie as tie
 
-abbrev invariant_loop : tie.invariant-loop
+abbrev invariant_loop : tie.invariant-loop-i
 invariant_loop usd₀ staged x i₀ usd i =
     (i ≤ x)
     × (length usd ≡ length usd₀)
     × T (all is_sector (indexed (slice i x staged)))
     × (all_protected usd (indexed (slice i x staged)) ≡ all_protected usd₀ (indexed (take x staged)))
 
-abbrev decreases_loop : tie.decreases-loop
+abbrev decreases_loop : tie.decreases-loop-i
 decreases_loop usd₀ staged x i₀ usd i = x - i
 
-protect_also_requires : tie.Need-protect-also-requires invariant_loop decreases_loop
+protect_also_requires : tie.Need-protect_also-requires invariant_loop decreases_loop
 unfolding only_protected
 protect_also_requires c κs =
     let at-loop = c.before.before.before in
     let start = at-loop.before.before.before.before.before.before.before in
     let s = start.args.staged.now in
     let n = start.args.x in
-    let i = at-loop.loop.i in (
+    let i = at-loop.loop-i.i in (
       omega arith,
       rw c.indexed.ensures (both_left (is_sector (indexed_at s i)) (all is_sector (indexed (slice (i + 1) n s)))
-          (subst T (all_indexed s i n (omega arith) (omega arith)) at-loop.loop.invariant.2)),
+          (subst T (all_indexed s i n (omega arith) (omega arith)) at-loop.loop-i.invariant.2)),
     )
 
-loop_again : tie.Need-loop-preserved invariant_loop decreases_loop
+loop_again : tie.Need-loop-i-preserved invariant_loop decreases_loop
 unfolding only_protected
 loop_again c =
     let after-protect-also = c.before.before in
@@ -46,13 +46,13 @@ loop_again c =
     let start = at-loop.before.before.before.before.before.before.before in
     let s = start.args.staged.now in
     let n = start.args.x in
-    let i = at-loop.loop.i in (
+    let i = at-loop.loop-i.i in (
       omega arith,
       omega arith,
       both_right (is_sector (indexed_at s i)) (all is_sector (indexed (slice (i + 1) n s)))
-          (subst T (all_indexed s i n (omega arith) (omega arith)) at-loop.loop.invariant.2),
-      rw (after-protect-also.protect-also.ensures, after-indexed.indexed.ensures)
-          (sym (protected_indexed s i n (omega arith) (omega arith) at-loop.loop.usd) ∙ at-loop.loop.invariant.3),
+          (subst T (all_indexed s i n (omega arith) (omega arith)) at-loop.loop-i.invariant.2),
+      rw (after-protect-also.protect_also.ensures, after-indexed.indexed.ensures)
+          (sym (protected_indexed s i n (omega arith) (omega arith) at-loop.loop-i.usd) ∙ at-loop.loop-i.invariant.3),
     )
 
 returns : tie.Need-returns invariant_loop decreases_loop
@@ -61,8 +61,8 @@ returns c =
     let at-loop = c.before in
     let after-release = at-loop.before.before.before in
     let start = after-release.before.before.before.before in
-    let e : at-loop.loop.i ≡ start.args.x = omega arith in
-    rw (← after-release.release.ensures) (rw (e, slice_empty) at at-loop.loop.invariant.3)
+    let e : at-loop.loop-i.i ≡ start.args.x = omega arith in
+    rw (← after-release.release.ensures) (rw (e, slice_empty) at at-loop.loop-i.invariant.3)
 
 pub protect_only_spec : {M : Type 1} → statement M
 unfolding only_protected

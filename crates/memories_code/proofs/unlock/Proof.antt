@@ -9,18 +9,18 @@ use Rattle.memories.proofs.Memories.{proper_length}
 use Rattle.memories_code.proofs.unlock.Statement.{statement}
 use Rattle.memories_code.proofs.unlock.Tie as tie
 
-protection_on_requires : tie.Need-protection-on-requires
+protection_on_requires : tie.Need-protection_on-on-requires
 protection_on_requires c κs =
     let start = c.before.before.before.before in
     proper_length (memories start.args.flash.now start.args.sram.now start.args.usd.now) start.requires Usd
 
-slice_write_usd : tie.Need-slice-write-usd
+slice_write_usd : tie.Need-bounds-usd-0
 slice_write_usd c =
     let start = c.before.before.before.before.before.before.before.before.before.before.before.before.before.before in
     let l = proper_length (memories start.args.flash.now start.args.sram.now start.args.usd.now) start.requires Usd in
     omega arith
 
-returns : tie.Need-returns
+returns : tie.Need-returns-then-on
 unfolding effect wiped erased_all
 returns c =
     let after-fill-all2 = c.before.before in
@@ -30,9 +30,9 @@ returns c =
     let start = after-protection-on.before.before.before.before.before in
     let m = memories start.args.flash.now start.args.sram.now start.args.usd.now in
     rw (
-      sym after-protection-on.protection-on.ensures ∙ then1.if1.true,
-      after-fill-all.fill-all.ensures,
-      after-fill-all2.fill-all2.ensures,
+      sym after-protection-on.protection_on-on.ensures ∙ then1.if-on.true,
+      after-fill-all.fill_all.ensures,
+      after-fill-all2.fill_all-then-on.ensures,
       proper_length m start.requires Flash,
       proper_length m start.requires Sram,
     )
@@ -51,4 +51,4 @@ unlock_spec =
     (λ c. search rules)
     returns
     (λ c. search rules)
-    (λ c. rw (sym c.before.protection-on.ensures ∙ c.if1.false)))
+    (λ c. rw (sym c.before.protection_on-on.ensures ∙ c.if-on.false)))
