@@ -1,5 +1,5 @@
 -- The cause of a line, by the tests that lead to it.
-use mathlib.Core.Path.{◌≡◌, refl}
+use mathlib.Core.Path.{◌≡◌, refl, ap}
 use mathlib.Core.Bool.{Bool, true, false, not, ◌||◌}
 use mathlib.Core.List.{List}
 use Prim.Native.Nat.{ℕ}
@@ -15,11 +15,13 @@ module _ (shift : ℤ) (ended : Bool) (touched : List ℕ) (x : Line) (b : Bool)
   unfolding cause_of
   bad_line_lem t = rw (← f, t) refl
 
-  pub bad_checksum : (ended || b) ≡ false → not x.right ≡ true → BadChecksum ≡ cause_of shift ended touched x
+  pub bad_checksum : (ended || b) ≡ false → x.right ≡ false → BadChecksum ≡ cause_of shift ended touched x
   unfolding cause_of
   bad_checksum t s = rw (← f, t, s) refl
 
-  pub by_place : (ended || b) ≡ false → not x.right ≡ false → (p : Place) → p ≡ place_of shift x
+  pub by_place : (ended || b) ≡ false → x.right ≡ true → (p : Place) → p ≡ place_of shift x
       → cause_of shift ended touched x ≡ cause_at p x.bytes touched
   unfolding cause_of
-  by_place t s p g = rw (← f, t, s, ← g) refl
+  by_place t s p g =
+      let n : not x.right ≡ false = ap not s in
+      rw (← f, t, n, ← g) refl

@@ -1,5 +1,4 @@
 pub mod Shift
-pub mod Others
 pub mod Places
 pub mod Faults
 pub mod Turns

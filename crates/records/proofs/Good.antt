@@ -4,9 +4,7 @@ use mathlib.Core.Bool.{Bool, true, false, ◌&&◌}
 use mathlib.Core.List.{List, [], ◌∷◌}
 use Prim.Native.Nat.{ℕ, ◌+◌, ◌*◌, ◌-◌, ◌≤◌, ◌<◌}
 use native.Mathlib.Omega.{arith}
-use denote.Enum.Declared.{tag_of}
-use types.Run.{OneOf, miss}
-use lib.Dec.{T, eqb, leb, leb→le, eqb→eq}
+use lib.Dec.{T, eqb, leb→le, eqb→eq}
 use lib.ListN.{length, get_or, drop}
 use lib.Seq.{drop-drop}
 use borrow.Author.Tests.{ne_eqb}
@@ -19,7 +17,6 @@ use Rattle.records.specs.Records.{letter_s, kind_by, address_bytes, type_in, cou
 use Rattle.records.specs.Records.{line_of, data_part}
 use Rattle.records.specs.declared.Kind.{Kind}
 use Rattle.records.specs.declared.Kind.TheVariants.{Bad, Header, Data, Count, End}
-use Rattle.records.specs.contracts.Kind.{the_type}
 use Rattle.records.proofs.Pairs.{length_pairs, pairs_drop, pairs_take}
 
 -- its pairs, its length by its count, and a count that takes in address and checksum
@@ -27,21 +24,6 @@ pub record Good (l : List ℕ) : Type 0 where
   pub pairs : T (are_pairs (drop 2 l))
   pub long : length l ≡ 4 + 2 * count_in l
   pub counts : least l ≤ count_in l
-
--- kinds that may carry data, and those that may not, by their variants' numbers
-pub carrying : (k : Kind) (m n : ℕ) → OneOf (1 ∷ 2 ∷ []) (tag_of the_type k) → leb m n ≡ fits_kind k m n
-carrying Header m n h = refl
-carrying Data m n h = refl
-carrying Count m n h = absurd (miss (1 ∷ 2 ∷ []) 3 tt h)
-carrying End m n h = absurd (miss (1 ∷ 2 ∷ []) 4 tt h)
-carrying Bad m n h = absurd (miss (1 ∷ 2 ∷ []) 0 tt h)
-
-pub empty : (k : Kind) (m n : ℕ) → OneOf (3 ∷ 4 ∷ []) (tag_of the_type k) → eqb n m ≡ fits_kind k m n
-empty Header m n h = absurd (miss (3 ∷ 4 ∷ []) 1 tt h)
-empty Data m n h = absurd (miss (3 ∷ 4 ∷ []) 2 tt h)
-empty Count m n h = refl
-empty End m n h = refl
-empty Bad m n h = absurd (miss (3 ∷ 4 ∷ []) 0 tt h)
 
 fits_least : (k : Kind) (m n : ℕ) → T (fits_kind k m n) → m ≤ n
 fits_least Header m n t = leb→le m n t

@@ -15,45 +15,45 @@ use Rattle.loading.proofs.placing.place_at.Tie as tie
 back : (c : tie.Start) → to_z w64 (of_z w64 c.args.address) ≡ c.args.address
 back c = to_z-of_z w64 c.args.address c.ranges.address
 
-not_below_0 : (c : tie.Else1) → lt_z c.before.args.address (pos 0) ≡ false
-not_below_0 c = rw (back c.before) at c.if1.false
+not_below_0 : (c : tie.Else-address-lt0) → lt_z c.before.args.address (pos 0) ≡ false
+not_below_0 c = rw (back c.before) at c.if-address-lt0.false
 
-returns_2 : tie.Need-returns-2
+returns_2 : tie.Need-returns-then-this-first
 returns_2 c =
     let else1 = c.before in
     let start = else1.before in
-    below start.args.address (not_below_0 else1) start.args.n (rw (back start) at c.if2.true)
+    below start.args.address (not_below_0 else1) start.args.n (rw (back start) at c.if-this-first.true)
 
-returns_3 : tie.Need-returns-3
+returns_3 : tie.Need-returns-then-n-gt-FLASH_BYTES
 returns_3 c =
     let else2 = c.before in
     let else1 = else2.before in
     let start = else1.before in
-    too_many start.args.address (not_below_0 else1) start.args.n (rw (back start) at else2.if2.false) c.if3.true
+    too_many start.args.address (not_below_0 else1) start.args.n (rw (back start) at else2.if-this-first.false) c.if-n-gt-FLASH_BYTES.true
 
-returns_4 : tie.Need-returns-4
+returns_4 : tie.Need-returns-then-offset-n
 returns_4 c =
     let else3 = c.before in
     let else2 = else3.before in
     let else1 = else2.before in
     let start = else1.before in
-    rw (back start) (inside start.args.address (not_below_0 else1) start.args.n (rw (back start) at else2.if2.false) else3.if3.false
-    (rw (back start) at c.if4.true))
+    rw (back start) (inside start.args.address (not_below_0 else1) start.args.n (rw (back start) at else2.if-this-first.false) else3.if-n-gt-FLASH_BYTES.false
+    (rw (back start) at c.if-offset-n.true))
 
-returns_5 : tie.Need-returns-5
+returns_5 : tie.Need-returns-else-offset-n
 returns_5 c =
     let else3 = c.before in
     let else2 = else3.before in
     let else1 = else2.before in
     let start = else1.before in
-    beyond start.args.address (not_below_0 else1) start.args.n (rw (back start) at else2.if2.false) else3.if3.false
-    (rw (back start) at c.if4.false)
+    beyond start.args.address (not_below_0 else1) start.args.n (rw (back start) at else2.if-this-first.false) else3.if-n-gt-FLASH_BYTES.false
+    (rw (back start) at c.if-offset-n.false)
 
 pub place_at_spec : {M : Type 1} → statement M
 place_at_spec =
     tie.close
     (tie.spec
-    (λ c. negative c.before.args.address c.before.args.n (rw (back c.before) at c.if1.true))
+    (λ c. negative c.before.args.address c.before.args.n (rw (back c.before) at c.if-address-lt0.true))
     (λ c. rw (back c.before) (natural_fits c.before.args.address (not_below_0 c) c.before.ranges.address))
     (λ c. search rules)
     returns_2

@@ -12,7 +12,7 @@ returns : tie.Need-returns
 returns c =
     let after-value = c.before.before in
     let start = after-value.before.before.before in
-    (rw (← (paired start).byte, ← after-value.value.ensures.0, ← c.value2.ensures.0), omega arith)
+    (rw (← (paired start).byte, ← after-value.value.ensures.0, ← c.value-2.ensures.0), omega arith)
 
 pub byte_at_spec : {M : Type 1} → statement M
 byte_at_spec =

@@ -6,25 +6,25 @@ use Rattle.records.proofs.Feeds.{ends_the_text, ends_at, stops_empty, stops_retu
 use Rattle.records.proofs.ends.line_at.Statement.{statement}
 use Rattle.records.proofs.ends.line_at.Tie as tie
 
-returns : tie.Need-returns
+returns : tie.Need-returns-then-text-feed
 returns c =
     let after-feed-from = c.before in
     let start = after-feed-from.before.before in
-    ends_the_text start.args.text.now start.args.at after-feed-from.feed-from.result after-feed-from.feed-from.ensures
-    start.requires c.if1.true
+    ends_the_text start.args.text.now start.args.at after-feed-from.feed_from-feed.result after-feed-from.feed_from-feed.ensures
+    start.requires c.if-text-feed.true
 
-returns_2 : tie.Need-returns-2
+returns_2 : tie.Need-returns-then-feed-at
 returns_2 c =
     let else1 = c.before in
     let after-feed-from = else1.before in
     let start = after-feed-from.before.before in
     let text = start.args.text.now in
     let at = start.args.at in
-    let feed = after-feed-from.feed-from.result in
-    let f = after-feed-from.feed-from.ensures in
-    ends_at text at feed f feed (omega arith) f.from (omega arith) (stops_empty text at feed f c.if2.true)
+    let feed = after-feed-from.feed_from-feed.result in
+    let f = after-feed-from.feed_from-feed.ensures in
+    ends_at text at feed f feed (omega arith) f.from (omega arith) (stops_empty text at feed f c.if-feed-at.true)
 
-returns_3 : tie.Need-returns-3
+returns_3 : tie.Need-returns-then-before-eq-CARRIAGE_RETURN
 returns_3 c =
     let else2 = c.before.before in
     let else1 = else2.before in
@@ -32,12 +32,12 @@ returns_3 c =
     let start = after-feed-from.before.before in
     let text = start.args.text.now in
     let at = start.args.at in
-    let feed = after-feed-from.feed-from.result in
-    let f = after-feed-from.feed-from.ensures in
+    let feed = after-feed-from.feed_from-feed.result in
+    let f = after-feed-from.feed_from-feed.ensures in
     ends_at text at feed f (feed - 1) (omega arith) (omega arith) (omega arith)
-    (stops_return text at feed f else2.if2.false c.if3.true)
+    (stops_return text at feed f else2.if-feed-at.false c.if-before-eq-CARRIAGE_RETURN.true)
 
-returns_4 : tie.Need-returns-4
+returns_4 : tie.Need-returns-else-before-eq-CARRIAGE_RETURN
 returns_4 c =
     let else2 = c.before.before in
     let else1 = else2.before in
@@ -45,9 +45,9 @@ returns_4 c =
     let start = after-feed-from.before.before in
     let text = start.args.text.now in
     let at = start.args.at in
-    let feed = after-feed-from.feed-from.result in
-    let f = after-feed-from.feed-from.ensures in
-    ends_at text at feed f feed (omega arith) f.from (omega arith) (stops_full text at feed f else2.if2.false c.if3.false)
+    let feed = after-feed-from.feed_from-feed.result in
+    let f = after-feed-from.feed_from-feed.ensures in
+    ends_at text at feed f feed (omega arith) f.from (omega arith) (stops_full text at feed f else2.if-feed-at.false c.if-before-eq-CARRIAGE_RETURN.false)
 
 pub line_at_spec : {M : Type 1} → statement M
 line_at_spec =

@@ -8,6 +8,6 @@ pub address_bytes_spec : {M : Type 1} → statement M
 address_bytes_spec =
     tie.close
     (tie.spec
-    (λ c. (rw c.if1.true refl, omega arith, omega arith))
-    (λ c. (rw (c.before.if1.false, c.if2.true) refl, omega arith, omega arith))
-    (λ c. (rw (c.before.if1.false, c.if2.false) refl, omega arith, omega arith)))
+    (λ c. (rw c.if-t.true refl, omega arith, omega arith))
+    (λ c. (rw (c.before.if-t.false, c.if-t-2.true) refl, omega arith, omega arith))
+    (λ c. (rw (c.before.if-t.false, c.if-t-2.false) refl, omega arith, omega arith)))

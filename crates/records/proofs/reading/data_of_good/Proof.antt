@@ -21,7 +21,7 @@ returns c =
     let l = start.args.line.now in
     let g = known start in
     let e : length l - 2 - (4 + 2 * address_bytes (get_or l 1 0)) ≡ 2 * (count_in l - least l) = omega (arith, g.long, g.counts) in
-    rw (holds_true (is_good l) start.requires, after-address-bytes.address-bytes.ensures.0)
+    rw (holds_true (is_good l) start.requires, after-address-bytes.address_bytes.ensures.0)
     (ap (λ (n : ℕ). part (4 + 2 * address_bytes (get_or l 1 0)) n l) e)
 
 pub data_of_good_spec : {M : Type 1} → statement M
@@ -33,7 +33,7 @@ data_of_good_spec =
     (λ c. search rules)
     (λ c. search rules)
     (λ c. let g = known c.before.before.before in omega (arith, g.long))
-    (λ c. let g = known c.before.before.before in omega (arith, g.long, g.counts, c.address-bytes.ensures.0))
-    (λ c. let g = known c.before.before.before in omega (arith, g.long, g.counts, c.address-bytes.ensures.0))
+    (λ c. let g = known c.before.before.before in omega (arith, g.long, g.counts, c.address_bytes.ensures.0))
+    (λ c. let g = known c.before.before.before in omega (arith, g.long, g.counts, c.address_bytes.ensures.0))
     (λ c. search rules)
     returns)

@@ -9,8 +9,8 @@ returns c =
     let after-byte-at2 = c.before in
     let after-sum-of = after-byte-at2.before in
     let after-byte-at = after-sum-of.before in
-    c.is-complement.ensures
-    ∙ rw (after-byte-at2.byte-at2.ensures.0, after-sum-of.sum_of.ensures, after-byte-at.byte_at.ensures.0) refl
+    c.is_complement.ensures
+    ∙ rw (after-byte-at2.byte_at.ensures.0, after-sum-of.sum_of.ensures, after-byte-at.byte_at-count.ensures.0) refl
 
 pub is_right_spec : {M : Type 1} → statement M
 is_right_spec =

@@ -1,8 +1,0 @@
--- Only the first cause accepts.
-use borrow.Author.Rules.{rules}
-use Rattle.loading.proofs.Others.{refusing}
-use Rattle.loading.proofs.Cause.accepts.Statement.{statement}
-use Rattle.loading.proofs.Cause.accepts.Tie as tie
-
-pub accepts_spec : {M : Type 1} → statement M
-accepts_spec = tie.close (tie.spec (λ c. search rules) (λ c. search rules) (λ c. refusing c.before.args.self c.match.keys2))
