@@ -12,4 +12,4 @@ erase_spec =
     (λ c κs. search rules)
     (λ c κs. search rules)
     (λ c κs. search rules)
-    (λ c. rw (← c.before.before.erase-verdict.ensures, ← c.before.alter.ensures) c.judged.ensures))
+    (λ c. rw (← c.before.before.erase_verdict.ensures, ← c.before.alter.ensures) c.judged.ensures))

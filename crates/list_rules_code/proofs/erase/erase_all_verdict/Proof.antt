@@ -10,7 +10,7 @@ unfolding erase_all_verdict
 erase_all_verdict_spec =
     tie.close
     (tie.spec
-    (λ c. rw c.if1.true)
+    (λ c. rw c.if-not-all.true)
     (λ c κs. search rules)
-    (λ c. rw (c.before.before.if1.false, sym c.before.any-write-protected.ensures ∙ c.if2.true))
-    (λ c. rw (c.before.before.if1.false, sym c.before.any-write-protected.ensures ∙ c.if2.false)))
+    (λ c. rw (c.before.before.if-not-all.false, sym c.before.any_write_protected-forbidden.ensures ∙ c.if-forbidden.true))
+    (λ c. rw (c.before.before.if-not-all.false, sym c.before.any_write_protected-forbidden.ensures ∙ c.if-forbidden.false)))

@@ -8,26 +8,26 @@ use Rattle.rules.specs.Rules.{erase_verdict}
 use Rattle.list_rules_code.proofs.erase.erase_verdict.Statement.{statement}
 use Rattle.list_rules_code.proofs.erase.erase_verdict.Tie as tie
 
-returns_2 : tie.Need-returns-2
+returns_2 : tie.Need-returns-then-forbidden
 unfolding erase_verdict
 returns_2 c =
     let after-any-numbered-protected = c.before in
     let else1 = after-any-numbered-protected.before in
     let after-all-numbered = else1.before in
     rw (
-      sym after-all-numbered.all-numbered.ensures ∙ not-false _ else1.if1.false,
-      sym after-any-numbered-protected.any-numbered-protected.ensures ∙ c.if2.true,
+      sym after-all-numbered.all_numbered-sectors.ensures ∙ not-false _ else1.if-not-sectors.false,
+      sym after-any-numbered-protected.any_numbered_protected-forbidden.ensures ∙ c.if-forbidden.true,
     )
 
-returns_3 : tie.Need-returns-3
+returns_3 : tie.Need-returns-else-forbidden
 unfolding erase_verdict
 returns_3 c =
     let after-any-numbered-protected = c.before in
     let else1 = after-any-numbered-protected.before in
     let after-all-numbered = else1.before in
     rw (
-      sym after-all-numbered.all-numbered.ensures ∙ not-false _ else1.if1.false,
-      sym after-any-numbered-protected.any-numbered-protected.ensures ∙ c.if2.false,
+      sym after-all-numbered.all_numbered-sectors.ensures ∙ not-false _ else1.if-not-sectors.false,
+      sym after-any-numbered-protected.any_numbered_protected-forbidden.ensures ∙ c.if-forbidden.false,
     )
 
 pub erase_verdict_spec : {M : Type 1} → statement M
@@ -36,7 +36,7 @@ erase_verdict_spec =
     tie.close
     (tie.spec
     (λ c κs. search rules)
-    (λ c. rw (sym c.before.all-numbered.ensures ∙ not-true _ c.if1.true))
-    (λ c κs. (omega arith, subst T (sym (sym c.before.all-numbered.ensures ∙ not-false _ c.if1.false)) tt))
+    (λ c. rw (sym c.before.all_numbered-sectors.ensures ∙ not-true _ c.if-not-sectors.true))
+    (λ c κs. (omega arith, subst T (sym (sym c.before.all_numbered-sectors.ensures ∙ not-false _ c.if-not-sectors.false)) tt))
     returns_2
     returns_3)

@@ -9,7 +9,7 @@ unfolding selector_of
 selector_of_spec =
     tie.close
     (tie.spec
-    (λ c. rw c.if1.true)
+    (λ c. rw c.if-special.true)
     (λ c κs. search rules)
-    (λ c. rw (c.before.before.if1.false, ← c.before.count.ensures, c.if2.true))
-    (λ c. rw (c.before.before.if1.false, ← c.before.count.ensures, c.if2.false)))
+    (λ c. rw (c.before.before.if-special.false, ← c.before.count-listed.ensures, c.if-listed.true))
+    (λ c. rw (c.before.before.if-special.false, ← c.before.count-listed.ensures, c.if-listed.false)))

@@ -12,25 +12,25 @@ use Rattle.board.proofs.InOrder.{indexed_first}
 use Rattle.list_rules_code.proofs.protect.all_indexed.Statement.{statement}
 use Rattle.list_rules_code.proofs.protect.all_indexed.Tie as tie
 
-abbrev invariant_loop : tie.invariant-loop
+abbrev invariant_loop : tie.invariant-loop-i
 invariant_loop staged x i₀ i = (i ≤ x) × (all is_sector (indexed (slice i x staged)) ≡ all is_sector (indexed (take x staged)))
 
-abbrev decreases_loop : tie.decreases-loop
+abbrev decreases_loop : tie.decreases-loop-i
 decreases_loop staged x i₀ i = x - i
 
-returns : tie.Need-returns invariant_loop decreases_loop
+returns : tie.Need-returns-then-not-here invariant_loop decreases_loop
 returns c =
     let after-exists = c.before in
     let after-indexed = after-exists.before in
     let at-loop = after-indexed.before.before in
     let start = at-loop.before.before in
     rw (
-      ← at-loop.loop.invariant.1,
-      indexed_first start.args.staged.now at-loop.loop.i start.args.x (omega arith) (omega arith),
-      ap is_sector (sym after-indexed.indexed.ensures) ∙ sym after-exists.exists.ensures ∙ not-true _ c.if1.true,
+      ← at-loop.loop-i.invariant.1,
+      indexed_first start.args.staged.now at-loop.loop-i.i start.args.x (omega arith) (omega arith),
+      ap is_sector (sym after-indexed.indexed-sector.ensures) ∙ sym after-exists.exists-here.ensures ∙ not-true _ c.if-not-here.true,
     )
 
-loop_again : tie.Need-loop-preserved invariant_loop decreases_loop
+loop_again : tie.Need-loop-i-preserved invariant_loop decreases_loop
 loop_again c =
     let after-exists = c.before in
     let after-indexed = after-exists.before in
@@ -38,10 +38,10 @@ loop_again c =
     let start = at-loop.before.before in (
       omega arith,
       rw (
-        indexed_first start.args.staged.now at-loop.loop.i start.args.x (omega arith) (omega arith),
-        ap is_sector (sym after-indexed.indexed.ensures) ∙ sym after-exists.exists.ensures ∙ not-false _ c.if1.false,
+        indexed_first start.args.staged.now at-loop.loop-i.i start.args.x (omega arith) (omega arith),
+        ap is_sector (sym after-indexed.indexed-sector.ensures) ∙ sym after-exists.exists-here.ensures ∙ not-false _ c.if-not-here.false,
       ) at
-          at-loop.loop.invariant.1,
+          at-loop.loop-i.invariant.1,
     )
 
 pub all_indexed_spec : {M : Type 1} → statement M
@@ -57,4 +57,4 @@ all_indexed_spec =
     (λ c. omega arith)
     (λ c. omega arith)
     loop_again
-    (λ c. let e : c.before.loop.i ≡ c.before.before.before.args.x = omega arith in rw (e, slice_empty) at c.before.loop.invariant.1))
+    (λ c. let e : c.before.loop-i.i ≡ c.before.before.before.args.x = omega arith in rw (e, slice_empty) at c.before.loop-i.invariant.1))

@@ -14,5 +14,5 @@ protect_spec =
     (λ c κs. search rules)
     (λ c κs. search rules)
     (λ c κs. search rules)
-    (λ c. rw (sym c.before.before.all-indexed.ensures ∙ c.before.if1.true) c.alter.ensures)
-    (λ c. rw (sym c.before.before.all-indexed.ensures ∙ c.before.if1.false) c.nack.ensures))
+    (λ c. rw (sym c.before.before.all_indexed-sectors.ensures ∙ c.before.if-sectors.true) c.alter.ensures)
+    (λ c. rw (sym c.before.before.all_indexed-sectors.ensures ∙ c.before.if-sectors.false) c.nack.ensures))

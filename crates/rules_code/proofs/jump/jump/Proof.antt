@@ -12,4 +12,4 @@ jump_spec =
     (λ c κs. search rules)
     (λ c κs. search rules)
     (λ c κs. search rules)
-    (λ c. rw (← c.before.before.jumpable.ensures, ← c.before.answer.ensures) c.accept-if.ensures))
+    (λ c. rw (← c.before.before.jumpable.ensures, ← c.before.answer.ensures) c.accept_if.ensures))

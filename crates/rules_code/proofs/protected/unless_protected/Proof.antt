@@ -12,5 +12,5 @@ unless_protected_spec =
     (tie.spec
     (λ c κs. search rules)
     (λ c κs. search rules)
-    (λ c. rw (← c.before.before.before.is-protected.ensures, c.before.if1.true) c.nack.ensures)
-    (λ c. rw (← c.before.before.is-protected.ensures, c.if1.false)))
+    (λ c. rw (← c.before.before.before.is_protected.ensures, c.before.if-forbidden.true) c.nack.ensures)
+    (λ c. rw (← c.before.before.is_protected.ensures, c.if-forbidden.false)))

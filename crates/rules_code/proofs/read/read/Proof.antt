@@ -10,7 +10,7 @@ returns c =
     let after-read-at = c.before in
     let after-place = after-read-at.before in
     let after-known = after-place.before in
-    rw (← after-known.known.ensures, ← after-place.place.ensures, ← after-read-at.read_at.ensures) c.accept-if.ensures
+    rw (← after-known.known.ensures, ← after-place.place.ensures, ← after-read-at.read_at.ensures) c.accept_if.ensures
 
 pub read_spec : {M : Type 1} → statement M
 read_spec =

@@ -14,4 +14,4 @@ read_at_spec =
     (λ c. search rules)
     (λ c κs. search rules)
     (λ c. rw c.before.before.place.given.1 c.show.ensures)
-    (λ c. rw c.before.enum_told.given.1 c.nack.ensures))
+    (λ c. rw c.before.enum_told-1.given.1 c.nack.ensures))

@@ -12,11 +12,11 @@ returns c =
     let after-sector-start = after-place.before in
     let after-bytes-in = after-sector-start.before in
     rw (
-      ← after-bytes-in.bytes-in.ensures,
-      ← after-sector-start.sector-start.ensures,
+      ← after-bytes-in.bytes_in-n.ensures,
+      ← after-sector-start.sector_start.ensures,
       ← after-place.place.ensures,
-      ← after-sum-at.sum-at.ensures,
-    ) c.accept-if.ensures
+      ← after-sum-at.sum_at.ensures,
+    ) c.accept_if.ensures
 
 pub sum_spec : {M : Type 1} → statement M
 unfolding summing

@@ -6,7 +6,7 @@ use Rattle.rules_code.proofs.Arms.{no_sum}
 use Rattle.rules_code.proofs.sum.sum_at.Statement.{statement}
 use Rattle.rules_code.proofs.sum.sum_at.Tie as tie
 
-returns_2 : tie.Need-returns-2
+returns_2 : tie.Need-returns-in_default
 returns_2 c =
     let at-match2-keys2 = c.before in
     let after-place = at-match2-keys2.before.before in
@@ -25,6 +25,6 @@ sum_at_spec =
     (λ c κs. search rules)
     (λ c. search rules)
     (λ c κs. search rules)
-    (λ c. rw (c.before.before.before.before.place.given.1, c.before.enum_told.given.1) c.show.ensures)
+    (λ c. rw (c.before.before.before.before.place.given.1, c.before.enum_told-1.given.1) c.show.ensures)
     returns_2
-    (λ c. rw c.before.enum-told2.given.1 c.nack2.ensures))
+    (λ c. rw c.before.enum_told-in-Nowhere-1.given.1 c.nack-in-Nowhere.ensures))

@@ -11,5 +11,5 @@ flash_verdict_spec =
     tie.close
     (tie.spec
     (λ c κs. search rules)
-    (λ c. rw (sym c.before.touches-protected.ensures ∙ c.if1.true))
-    (λ c. rw (sym c.before.touches-protected.ensures ∙ c.if1.false)))
+    (λ c. rw (sym c.before.touches_protected-forbidden.ensures ∙ c.if-forbidden.true))
+    (λ c. rw (sym c.before.touches_protected-forbidden.ensures ∙ c.if-forbidden.false)))

@@ -6,17 +6,17 @@ use Rattle.board.specs.declared.Sector.{Sector}
 use Rattle.rules_code.proofs.write.touches_protected.Statement.{statement}
 use Rattle.rules_code.proofs.write.touches_protected.Tie as tie
 
-sub_any_write_protected : tie.Need-overflow-sub-any-write-protected
+sub_any_write_protected : tie.Need-overflow_sub-last
 sub_any_write_protected c =
     let after-at2 = c.before.before in
     let after-at = after-at2.before in
-    omega (arith, ap (λ (k : Sector). k.0) after-at.at.ensures, ap (λ (k : Sector). k.0) after-at2.at2.ensures)
+    omega (arith, ap (λ (k : Sector). k.0) after-at.at-first.ensures, ap (λ (k : Sector). k.0) after-at2.at-last.ensures)
 
-any_write_protected_requires : tie.Need-any-write-protected-requires
+any_write_protected_requires : tie.Need-any_write_protected-requires
 any_write_protected_requires c κs =
     let after-at2 = c.before.before in
     let after-at = after-at2.before in
-    omega (arith, ap (λ (k : Sector). k.0) after-at.at.ensures, ap (λ (k : Sector). k.0) after-at2.at2.ensures)
+    omega (arith, ap (λ (k : Sector). k.0) after-at.at-first.ensures, ap (λ (k : Sector). k.0) after-at2.at-last.ensures)
 
 pub touches_protected_spec : {M : Type 1} → statement M
 touches_protected_spec =
@@ -30,4 +30,4 @@ touches_protected_spec =
     (λ c. search rules)
     (λ c. search rules)
     any_write_protected_requires
-    (λ c. rw (c.before.before.before.before.at.ensures, c.before.before.before.at2.ensures) at c.any-write-protected.ensures))
+    (λ c. rw (c.before.before.before.before.at-first.ensures, c.before.before.before.at-last.ensures) at c.any_write_protected.ensures))

@@ -8,5 +8,5 @@ unfolding write_verdict_at
 usd_verdict_spec =
     tie.close
     (tie.spec
-    (λ c. λ view. rw c.if1.true)
-    (λ c. λ view. rw c.if1.false))
+    (λ c. λ view. rw c.if-whole.true)
+    (λ c. λ view. rw c.if-whole.false))

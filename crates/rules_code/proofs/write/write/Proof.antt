@@ -10,7 +10,7 @@ returns c =
     let after-write-at = c.before in
     let after-place = after-write-at.before in
     let after-write-verdict = after-place.before in
-    rw (← after-write-verdict.write-verdict.ensures, ← after-place.place.ensures, ← after-write-at.write-at.ensures)
+    rw (← after-write-verdict.write_verdict.ensures, ← after-place.place.ensures, ← after-write-at.write_at.ensures)
     c.judged.ensures
 
 pub write_spec : {M : Type 1} → statement M

@@ -15,4 +15,4 @@ write_at_spec =
     (λ c. search rules)
     (λ c κs. search rules)
     (λ c. rw (c.before.before.before.place.given.1, ← c.before.after_write.ensures) c.alter.ensures)
-    (λ c. rw c.before.enum_told.given.1 c.nack.ensures))
+    (λ c. rw c.before.enum_told-1.given.1 c.nack.ensures))

@@ -10,18 +10,18 @@ use Rattle.rules.specs.Rules.{write_verdict_at, write_verdict}
 use Rattle.rules_code.proofs.write.write_verdict.Statement.{statement}
 use Rattle.rules_code.proofs.write.write_verdict.Tie as tie
 
-flash_verdict_requires : tie.Need-flash-verdict-requires
+flash_verdict_requires : tie.Need-flash_verdict-requires
 flash_verdict_requires c κs =
     let after-place2 = c.before.before.before in
     let after-place = after-place2.before.before in
     let start = after-place.before.before.before in
-    let at = after-place2.place2.given.0.1.0 in
+    let at = after-place2.place-1.given.0.1.0 in
     let h =
-    lies start.args.address start.args.x Flash at (sym after-place.place.ensures ∙ after-place2.place2.given.1 ∙ ap
-    (λ (r : Region). In r at) c.enum_told.given.1) in
+    lies start.args.address start.args.x Flash at (sym after-place.place-place.ensures ∙ after-place2.place-1.given.1 ∙ ap
+    (λ (r : Region). In r at) c.enum_told-1.given.1) in
     (omega arith, omega (arith, h.from, h.to, h.offset))
 
-returns : tie.Need-returns
+returns : tie.Need-returns-in-Flash
 unfolding write_verdict write_verdict_at
 returns c =
     let after-enum-told = c.before in
@@ -30,12 +30,12 @@ returns c =
     let then1 = after-place.before in
     let after-known = then1.before in
     rw (
-      sym after-known.known.ensures ∙ then1.if1.true,
-      sym after-place.place.ensures ∙ after-place2.place2.given.1,
-      after-enum-told.enum_told.given.1,
-    ) c.flash-verdict.ensures
+      sym after-known.known-known.ensures ∙ then1.if-known.true,
+      sym after-place.place-place.ensures ∙ after-place2.place-1.given.1,
+      after-enum-told.enum_told-1.given.1,
+    ) c.flash_verdict.ensures
 
-returns_2 : tie.Need-returns-2
+returns_2 : tie.Need-returns-in-Sram
 unfolding write_verdict write_verdict_at
 returns_2 c =
     let after-place2 = c.before.before.before in
@@ -43,12 +43,12 @@ returns_2 c =
     let then1 = after-place.before in
     let after-known = then1.before in
     rw (
-      sym after-known.known.ensures ∙ then1.if1.true,
-      sym after-place.place.ensures ∙ after-place2.place2.given.1,
-      c.enum-told2.given.1,
+      sym after-known.known-known.ensures ∙ then1.if-known.true,
+      sym after-place.place-place.ensures ∙ after-place2.place-1.given.1,
+      c.enum_told-in-Sram-1.given.1,
     )
 
-returns_3 : tie.Need-returns-3
+returns_3 : tie.Need-returns-in-Usd
 unfolding write_verdict write_verdict_at
 returns_3 c =
     let after-enum-told3 = c.before in
@@ -57,18 +57,18 @@ returns_3 c =
     let then1 = after-place.before in
     let after-known = then1.before in
     rw (
-      sym after-known.known.ensures ∙ then1.if1.true,
-      sym after-place.place.ensures ∙ after-place2.place2.given.1,
-      after-enum-told3.enum-told3.given.1,
-    ) (c.usd-verdict.ensures after-known.before.args.view)
+      sym after-known.known-known.ensures ∙ then1.if-known.true,
+      sym after-place.place-place.ensures ∙ after-place2.place-1.given.1,
+      after-enum-told3.enum_told-in-Usd-1.given.1,
+    ) (c.usd_verdict.ensures after-known.before.args.view)
 
-returns_4 : tie.Need-returns-4
+returns_4 : tie.Need-returns-in-Nowhere
 unfolding write_verdict write_verdict_at
 returns_4 c =
     let after-place = c.before.before in
     let then1 = after-place.before in
     let after-known = then1.before in
-    rw (sym after-known.known.ensures ∙ then1.if1.true, sym after-place.place.ensures ∙ c.enum-told4.given.1)
+    rw (sym after-known.known-known.ensures ∙ then1.if-known.true, sym after-place.place-place.ensures ∙ c.enum_told-in-Nowhere-1.given.1)
 
 pub write_verdict_spec : {M : Type 1} → statement M
 unfolding write_verdict write_verdict_at
@@ -88,4 +88,4 @@ write_verdict_spec =
     returns_2
     returns_3
     returns_4
-    (λ c. rw (sym c.before.known.ensures ∙ c.if1.false)))
+    (λ c. rw (sym c.before.known-known.ensures ∙ c.if-known.false)))
