@@ -31,7 +31,7 @@ returns c =
       ← at-loop.loop-j.invariant.2,
       numbered_first start.args.staged.now at-loop.loop-j.j (2 * start.args.x) (omega arith)
           (omega arith),
-      ap is_sector (sym after-numbered.numbered-sector.ensures) ∙ sym after-exists.exists-here.ensures ∙ not-true _ c.if-not-here.true,
+      ap is_sector (sym after-numbered.numbered-sector.ensures) ∙ sym after-exists.exists-here.ensures ∙ c.if-not-here.true,
     )
 
 loop_again : tie.Need-loop-j-preserved invariant_loop decreases_loop
@@ -44,7 +44,7 @@ loop_again c =
       omega arith,
       rw (
         numbered_first start.args.staged.now at-loop.loop-j.j (2 * start.args.x) (omega arith) (omega arith),
-        ap is_sector (sym after-numbered.numbered-sector.ensures) ∙ sym after-exists.exists-here.ensures ∙ not-false _ c.if-not-here.false,
+        ap is_sector (sym after-numbered.numbered-sector.ensures) ∙ sym after-exists.exists-here.ensures ∙ c.if-not-here.false,
       ) at
           at-loop.loop-j.invariant.2,
     )

@@ -15,7 +15,7 @@ returns_2 c =
     let else1 = after-any-numbered-protected.before in
     let after-all-numbered = else1.before in
     rw (
-      sym after-all-numbered.all_numbered-sectors.ensures ∙ not-false _ else1.if-not-sectors.false,
+      sym after-all-numbered.all_numbered-sectors.ensures ∙ else1.if-not-sectors.false,
       sym after-any-numbered-protected.any_numbered_protected-forbidden.ensures ∙ c.if-forbidden.true,
     )
 
@@ -26,7 +26,7 @@ returns_3 c =
     let else1 = after-any-numbered-protected.before in
     let after-all-numbered = else1.before in
     rw (
-      sym after-all-numbered.all_numbered-sectors.ensures ∙ not-false _ else1.if-not-sectors.false,
+      sym after-all-numbered.all_numbered-sectors.ensures ∙ else1.if-not-sectors.false,
       sym after-any-numbered-protected.any_numbered_protected-forbidden.ensures ∙ c.if-forbidden.false,
     )
 
@@ -36,7 +36,7 @@ erase_verdict_spec =
     tie.close
     (tie.spec
     (λ c κs. search rules)
-    (λ c. rw (sym c.before.all_numbered-sectors.ensures ∙ not-true _ c.if-not-sectors.true))
-    (λ c κs. (omega arith, subst T (sym (sym c.before.all_numbered-sectors.ensures ∙ not-false _ c.if-not-sectors.false)) tt))
+    (λ c. rw (sym c.before.all_numbered-sectors.ensures ∙ c.if-not-sectors.true))
+    (λ c κs. (omega arith, subst T (sym (sym c.before.all_numbered-sectors.ensures ∙ c.if-not-sectors.false)) tt))
     returns_2
     returns_3)

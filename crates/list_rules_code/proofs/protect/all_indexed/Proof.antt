@@ -27,7 +27,7 @@ returns c =
     rw (
       ← at-loop.loop-i.invariant.1,
       indexed_first start.args.staged.now at-loop.loop-i.i start.args.x (omega arith) (omega arith),
-      ap is_sector (sym after-indexed.indexed-sector.ensures) ∙ sym after-exists.exists-here.ensures ∙ not-true _ c.if-not-here.true,
+      ap is_sector (sym after-indexed.indexed-sector.ensures) ∙ sym after-exists.exists-here.ensures ∙ c.if-not-here.true,
     )
 
 loop_again : tie.Need-loop-i-preserved invariant_loop decreases_loop
@@ -39,7 +39,7 @@ loop_again c =
       omega arith,
       rw (
         indexed_first start.args.staged.now at-loop.loop-i.i start.args.x (omega arith) (omega arith),
-        ap is_sector (sym after-indexed.indexed-sector.ensures) ∙ sym after-exists.exists-here.ensures ∙ not-false _ c.if-not-here.false,
+        ap is_sector (sym after-indexed.indexed-sector.ensures) ∙ sym after-exists.exists-here.ensures ∙ c.if-not-here.false,
       ) at
           at-loop.loop-i.invariant.1,
     )
