@@ -10,4 +10,4 @@ is_field_spec =
     (tie.spec
     (λ c κs. search rules)
     (λ c κs. search rules)
-    (λ c. rw (c.before.is_digit.ensures, c.is-digit2.ensures) refl))
+    (λ c. rw (c.before.is_digit.ensures, c.is_digit-2.ensures) refl))
