@@ -5,19 +5,19 @@ use Rattle.desk_lines.proofs.Lines.{field_good}
 use Rattle.desk_written.proofs.byte_at.Statement.{statement}
 use Rattle.desk_written.proofs.byte_at.Tie as tie
 
-shared_slice_read_byte_in : tie.Need-shared-slice-read-byte-in
+shared_slice_read_byte_in : tie.Need-bounds-rest-i
 shared_slice_read_byte_in c =
     let start = c.before.before in
     let g = field_good start.args.rest.now start.args.i start.requires.0 start.requires.1 in
     omega (arith, g.0)
 
-shared_slice_read_byte_in_2 : tie.Need-shared-slice-read-byte-in-2
+shared_slice_read_byte_in_2 : tie.Need-bounds-rest-i-2
 shared_slice_read_byte_in_2 c =
     let start = c.before.before.before in
     let g = field_good start.args.rest.now start.args.i start.requires.0 start.requires.1 in
     g.0
 
-byte_in_requires : tie.Need-byte-in-requires
+byte_in_requires : tie.Need-byte_in-requires
 byte_in_requires c κs =
     let start = c.before.before.before in
     let g = field_good start.args.rest.now start.args.i start.requires.0 start.requires.1 in

@@ -9,39 +9,39 @@ use Rattle.desk_lines.proofs.Lines.{frame_good, frame_made, data_fits}
 use Rattle.desk_written.proofs.frame.Statement.{statement}
 use Rattle.desk_written.proofs.frame.Tie as tie
 
-bytes_requires : tie.Need-bytes-requires
+bytes_requires : tie.Need-bytes-n-requires
 bytes_requires c κs =
     let start = c.before.before.before.before in
     let l = start.args.rest.now in
     let g = frame_good l start.requires.0 in
     rw (to_the_end 4 l) (g.behind, simp length-drop (omega (arith, g.fits)))
 
-array_share_prefix_data : tie.Need-array-share-prefix-data
+array_share_prefix_data : tie.Need-slice_bounds-data-end
 array_share_prefix_data c =
     let after-bytes = c.before.before in
     let start = after-bytes.before.before.before.before.before in
     let l = start.args.rest.now in
     let f = data_fits l (frame_good l start.requires.0) in
-    omega (arith, f, rw (to_the_end 4 l) at after-bytes.bytes.ensures.0, after-bytes.bytes.auto.1.0)
+    omega (arith, f, rw (to_the_end 4 l) at after-bytes.bytes-n.ensures.0, after-bytes.bytes-n.auto.out)
 
-slice_aggregate_put_frame : tie.Need-slice-aggregate-put-frame
+slice_aggregate_put_frame : tie.Need-slice_bounds-put_frame-end
 slice_aggregate_put_frame c =
     let after-bytes = c.before.before.before in
     let start = after-bytes.before.before.before.before.before in
     let l = start.args.rest.now in
     let f = data_fits l (frame_good l start.requires.0) in
-    sym (length-take-le after-bytes.bytes.result after-bytes.bytes.new.1.0
-    (omega (arith, f, rw (to_the_end 4 l) at after-bytes.bytes.ensures.0, after-bytes.bytes.auto.1.0)))
+    sym (length-take-le after-bytes.bytes-n.result after-bytes.bytes-n.new.out
+    (omega (arith, f, rw (to_the_end 4 l) at after-bytes.bytes-n.ensures.0, after-bytes.bytes-n.auto.out)))
 
-put_frame_requires : tie.Need-put-frame-requires
+put_frame_requires : tie.Need-put_frame-requires
 put_frame_requires c κs =
     let after-bytes = c.before.before.before.before in
     let start = after-bytes.before.before.before.before.before in
     let l = start.args.rest.now in
     let f = data_fits l (frame_good l start.requires.0) in
-    let n = rw (to_the_end 4 l) at after-bytes.bytes.ensures.0 in
+    let n = rw (to_the_end 4 l) at after-bytes.bytes-n.ensures.0 in
     let k =
-    length-take-le after-bytes.bytes.result after-bytes.bytes.new.1.0 (omega (arith, f, n, after-bytes.bytes.auto.1.0)) in
+    length-take-le after-bytes.bytes-n.result after-bytes.bytes-n.new.out (omega (arith, f, n, after-bytes.bytes-n.auto.out)) in
     (omega (arith, k, n, f), omega arith, omega (arith, start.requires.1))
 
 returns : tie.Need-returns
@@ -51,9 +51,9 @@ returns c =
     let after-bytes = after-id.before.before in
     let start = after-bytes.before.before.before.before.before in
     let l = start.args.rest.now in
-    after-put-frame.put-frame.ensures ∙ rw (after-bytes.bytes.ensures.1, to_the_end 4 l)
-    (frame_made l start.args.out.now (replicate 8 0) after-bytes.bytes.result after-id.id.result
-    (frame_good l start.requires.0) start.requires.1 refl (rw (to_the_end 4 l) at after-bytes.bytes.ensures.0)
+    after-put-frame.put_frame.ensures ∙ rw (after-bytes.bytes-n.ensures.1, to_the_end 4 l)
+    (frame_made l start.args.out.now (replicate 8 0) after-bytes.bytes-n.result after-id.id.result
+    (frame_good l start.requires.0) start.requires.1 refl (rw (to_the_end 4 l) at after-bytes.bytes-n.ensures.0)
     after-id.id.ensures)
 
 pub frame_spec : {M : Type 1} → statement M

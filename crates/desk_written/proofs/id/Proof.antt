@@ -6,19 +6,19 @@ use Rattle.desk_lines.proofs.Lines.{frame_good}
 use Rattle.desk_written.proofs.id.Statement.{statement}
 use Rattle.desk_written.proofs.id.Tie as tie
 
-shared_slice_read_byte_in : tie.Need-shared-slice-read-byte-in
+shared_slice_read_byte_in : tie.Need-bounds-rest-2
 shared_slice_read_byte_in c =
     let start = c.before.before.before.before in
     let g = frame_good start.args.rest.now start.requires in
     omega (arith, g.long)
 
-shared_slice_read_byte_in_2 : tie.Need-shared-slice-read-byte-in-2
+shared_slice_read_byte_in_2 : tie.Need-bounds-rest-3
 shared_slice_read_byte_in_2 c =
     let start = c.before.before.before.before.before in
     let g = frame_good start.args.rest.now start.requires in
     omega (arith, g.long)
 
-byte_in_requires : tie.Need-byte-in-requires
+byte_in_requires : tie.Need-byte_in-requires
 byte_in_requires c κs =
     let start = c.before.before.before.before.before in
     let g = frame_good start.args.rest.now start.requires in
@@ -34,4 +34,4 @@ id_spec =
     shared_slice_read_byte_in_2
     byte_in_requires
     (λ c κs. search rules)
-    (λ c. c.number2.ensures ∙ rw (c.before.before.before.before.value.ensures.0, c.before.byte-in.ensures) (omega arith)))
+    (λ c. c.number2.ensures ∙ rw (c.before.before.before.before.value.ensures.0, c.before.byte_in.ensures) (omega arith)))

@@ -1,25 +1,23 @@
 -- Each turn finds one more field behind those that were found.
 use borrow.Author.Rules.{rules}
 use native.Mathlib.Omega.{arith}
-use borrow.Author.Tests.{not-false}
 use mathlib.Core.Path.{sym, subst}
 use Prim.Native.Nat.{◌≤◌, ◌-◌}
 use lib.Dec.{T}
 use lib.ListN.{take, get_or}
 use Rattle.desk_lines.specs.Lines.{are_fields}
-use Rattle.desk_lines.specs.Digits.{is_digit}
 use Prim.Native.Nat.{◌+◌}
 use Rattle.desk_written.proofs.FrameFirst.{one_field_more, field_by}
 use Rattle.desk_written.proofs.first.fields_first.Statement.{statement}
 use Rattle.desk_written.proofs.first.fields_first.Tie as tie
 
-abbrev invariant_loop : tie.invariant-loop
+abbrev invariant_loop : tie.invariant-loop-at
 invariant_loop rest n at₀ at = (at ≤ n) × T (are_fields (take at rest))
 
-abbrev decreases_loop : tie.decreases-loop
+abbrev decreases_loop : tie.decreases-loop-at
 decreases_loop rest n at₀ at = n - at
 
-loop_again : tie.Need-loop-preserved invariant_loop decreases_loop
+loop_again : tie.Need-loop-at-preserved invariant_loop decreases_loop
 loop_again c =
     let after-is-digit2 = c.before in
     let else2 = after-is-digit2.before.before in
@@ -28,13 +26,11 @@ loop_again c =
     let at-loop = else1.before.before.before in
     let start = at-loop.before.before in
     let s = start.args.rest.now in
-    let k = at-loop.loop.at in
-    let b = is_digit (get_or s (k + 1) 0) in
-    let d = is_digit (get_or s (k + 2) 0) in (
+    let k = at-loop.loop-at.at in (
       omega arith,
-      one_field_more s k (omega arith) at-loop.loop.invariant.1 (field_by (get_or s k 0) (get_or s (k + 1) 0) (get_or s (k + 2) 0)
-          else1.if1.false (subst T (sym (not-false b (rw after-is-digit.is_digit.ensures at else2.if2.false))) tt)
-          (subst T (sym (not-false d (rw after-is-digit2.is-digit2.ensures at c.if3.false))) tt)),
+      one_field_more s k (omega arith) at-loop.loop-at.invariant.1 (field_by (get_or s k 0) (get_or s (k + 1) 0) (get_or s (k + 2) 0)
+          else1.if-rest-at-ne-SPACE.false (subst T (sym (rw after-is-digit.is_digit-high.ensures at else2.if-not-high.false)) tt)
+          (subst T (sym (rw after-is-digit2.is_digit-low.ensures at c.if-not-low.false)) tt)),
     )
 
 pub fields_first_spec : {M : Type 1} → statement M
@@ -44,18 +40,18 @@ fields_first_spec =
     invariant_loop
     decreases_loop
     (λ c. (omega arith, tt))
-    (λ c. omega (arith, c.loop.invariant.0))
+    (λ c. omega (arith, c.loop-at.invariant.0))
     (λ c. omega arith)
-    (λ c. c.before.before.before.loop.invariant)
+    (λ c. c.before.before.before.loop-at.invariant)
     (λ c. search rules)
     (λ c. omega arith)
     (λ c κs. search rules)
-    (λ c. c.before.before.before.before.before.before.loop.invariant)
+    (λ c. c.before.before.before.before.before.before.loop-at.invariant)
     (λ c. search rules)
     (λ c. omega arith)
     (λ c κs. search rules)
-    (λ c. c.before.before.before.before.before.before.before.before.before.loop.invariant)
+    (λ c. c.before.before.before.before.before.before.before.before.before.loop-at.invariant)
     (λ c. omega arith)
     (λ c. omega arith)
     loop_again
-    (λ c. c.before.loop.invariant))
+    (λ c. c.before.loop-at.invariant))

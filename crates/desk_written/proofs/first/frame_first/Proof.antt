@@ -9,7 +9,7 @@ use Rattle.desk_written.proofs.FrameFirst.{frame_at}
 use Rattle.desk_written.proofs.first.frame_first.Statement.{statement}
 use Rattle.desk_written.proofs.first.frame_first.Tie as tie
 
-returns_3 : tie.Need-returns-3
+returns_3 : tie.Need-returns-then-good
 returns_3 c =
     let after-is-digit3 = c.before.before in
     let after-is-digit2 = after-is-digit3.before.before in
@@ -17,10 +17,10 @@ returns_3 c =
     let after-fields-first = after-is-digit.before.before.before.before.before in
     let start = after-fields-first.before.before.before.before in
     let text = start.args.text.now in
-    λ h. frame_at text after-fields-first.fields-first.result (5 + after-fields-first.fields-first.result) (omega arith)
-    (omega arith) (rw (to_the_end 5 text) at after-fields-first.fields-first.ensures.1)
-    (subst T (sym (rw (after-is-digit.is_digit.ensures, after-is-digit2.is-digit2.ensures, after-is-digit3.is-digit3.ensures) at
-    c.if3.true)) tt)
+    λ h. frame_at text after-fields-first.fields_first.result (5 + after-fields-first.fields_first.result) (omega arith)
+    (omega arith) (rw (to_the_end 5 text) at after-fields-first.fields_first.ensures.1)
+    (subst T (sym (rw (after-is-digit.is_digit.ensures, after-is-digit2.is_digit-2.ensures, after-is-digit3.is_digit-3.ensures) at
+    c.if-good.true)) tt)
 
 pub frame_first_spec : {M : Type 1} → statement M
 frame_first_spec =
