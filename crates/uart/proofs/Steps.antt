@@ -1,5 +1,5 @@
 -- The UART steps are numbered from 0 in their order, and each is read back from its number.
-use mathlib.Core.Path.{◌≡◌, refl, ap, ◌∙◌}
+use mathlib.Core.Path.{◌≡◌, refl}
 use mathlib.Core.Bool.{◌&&◌}
 use mathlib.Core.List.{map}
 use Prim.Native.Nat.{ℕ, ◌%◌, ◌≤◌}
@@ -9,8 +9,6 @@ use lib.ListN.{length}
 use Rattle.words.specs.Lists.{count_from}
 use Rattle.words.proofs.Tests.{both_left, both_right}
 use Rattle.uart.specs.Steps.{step_no, steps, step_of, expects, before}
-use denote.Enum.Declared.{tag_of}
-use Rattle.uart.specs.contracts.Step.{the_type}
 use Rattle.uart.specs.declared.Step.{Step}
 use Rattle.uart.specs.declared.Step.TheVariants.{Idle, ReadAddress, JumpAddress, WriteAddress, CrcAddress, ReadLength, WriteLength, WriteData}
 use Rattle.uart.specs.declared.Step.TheVariants.{EraseSelector, SpecialCheck, EraseList, ProtectLength, ProtectList, CrcCount}
@@ -79,23 +77,3 @@ before_few EraseList = omega arith
 before_few ProtectLength = omega arith
 before_few ProtectList = omega arith
 before_few CrcCount = omega arith
-
--- a step is declared at its number
-pub declared_at_lem : (s : Step) (n : ℕ) → tag_of the_type s ≡ n → s ≡ step_of n
-declared_at_lem s n e = by_step s ∙ ap step_of e
-  where
-    by_step : (s : Step) → s ≡ step_of (tag_of the_type s)
-    by_step Idle = refl
-    by_step ReadAddress = refl
-    by_step JumpAddress = refl
-    by_step WriteAddress = refl
-    by_step CrcAddress = refl
-    by_step ReadLength = refl
-    by_step WriteLength = refl
-    by_step WriteData = refl
-    by_step EraseSelector = refl
-    by_step SpecialCheck = refl
-    by_step EraseList = refl
-    by_step ProtectLength = refl
-    by_step ProtectList = refl
-    by_step CrcCount = refl
