@@ -11,7 +11,7 @@ returns c =
     let start = after-least.before.before in
     let f =
     so_many_fit (progress_at start.args.taken start.args.expected 0 start.args.staged.now) start.args.new.now
-    after-least.least.result after-least.least.ensures in
+    after-least.least-fit.result after-least.least-fit.ensures in
     (rw f.0, rw (c.stage.ensures, f.1))
 
 pub gather_spec : {M : Type 1} → statement M
