@@ -1,7 +1,7 @@
 // Writes a reply as UART sends it.
 ghost use Rattle.std.specs.Prelude.{◌≤◌, T, length};
 ghost use Rattle.words.specs.Lists.{join};
-ghost use Rattle.memories.specs.Lent.{held, were};
+ghost use Rattle.memories.specs.Memories.{memories};
 ghost use Rattle.memories.specs.Memories.{proper};
 ghost use Rattle.command.specs.Says.{says, sayable, Said};
 ghost use Rattle.reply.specs.Fixed.{Holds, Lists};
@@ -28,8 +28,8 @@ fn commands() -> Fixed
 
 // Writes a reply that can be given, and tells its length.
 pub fn say(reply: Reply, flash: &[u8], sram: &[u8], usd: &[u8], buffer: &mut [u8]) -> usize
-    requires { T (proper (held flash sram usd)) × T (sayable reply) × (uart_room ≤ length buffer.old) }
-    ensures { Said (join (says command_bytes reply (were flash sram usd))) result buffer.old buffer.new }
+    requires { T (proper (memories flash.now sram.now usd.now)) × T (sayable reply) × (uart_room ≤ length buffer.old) }
+    ensures { Said (join (says command_bytes reply (memories flash.now sram.now usd.now))) result buffer.old buffer.new }
 {
     crate::say(commands(), reply, flash, sram, usd, buffer)
 }

@@ -1,6 +1,6 @@
 // Writes a reply as CAN sends it.
 ghost use Rattle.std.specs.Prelude.{◌≡◌, ◌≤◌, ◌<◌, T, length};
-ghost use Rattle.memories.specs.Lent.{held, were};
+ghost use Rattle.memories.specs.Memories.{memories};
 ghost use Rattle.memories.specs.Memories.{proper};
 ghost use Rattle.command.specs.Says.{says, sayable, Said};
 ghost use Rattle.reply.specs.Fixed.{Holds, Lists};
@@ -50,8 +50,8 @@ fn put_reply(id: u16, bytes: &[u8], piece: usize, buffer: &mut [u8]) -> usize
 
 // Writes a reply that can be given in frames of an ID, and tells its length.
 pub fn say(reply: Reply, id: u16, flash: &[u8], sram: &[u8], usd: &[u8], buffer: &mut [u8]) -> usize
-    requires { T (proper (held flash sram usd)) × T (sayable reply) × (can_room ≤ length buffer.old) }
-    ensures { Said (framed classic id (says command_bytes reply (were flash sram usd))) result buffer.old buffer.new }
+    requires { T (proper (memories flash.now sram.now usd.now)) × T (sayable reply) × (can_room ≤ length buffer.old) }
+    ensures { Said (framed classic id (says command_bytes reply (memories flash.now sram.now usd.now))) result buffer.old buffer.new }
 {
     let mut bytes = [0u8; uart::ROOM];
     let n = crate::say(commands(), reply, flash, sram, usd, &mut bytes);

@@ -11,7 +11,7 @@ ghost use Rattle.words.specs.Over.{put};
 ghost use Rattle.board.specs.Board.{extent_of};
 ghost use Rattle.board.specs.Quantities.{largest_count};
 ghost use Rattle.word_crc.specs.Words.{word_crc};
-ghost use Rattle.memories.specs.Lent.{held, were};
+ghost use Rattle.memories.specs.Memories.{memories};
 ghost use Rattle.memories.specs.Memories.{proper, bytes_of};
 ghost use Rattle.command.specs.Says.{reply_room, ack_byte, tells, says, sayable, fixed, Said};
 ghost use Rattle.reply.specs.Fixed.{fixed_room, listing, Holds, Lists};
@@ -147,8 +147,8 @@ fn say_data(
     usd: &[u8],
     buffer: &mut [u8],
 ) -> usize
-    requires { T (proper (held flash sram usd)) × (x ≤ largest_count) × (at + x ≤ (extent_of region).bytes) × (reply_room ≤ length buffer.old) }
-    ensures { (result ≡ x + 1) × (buffer.new ≡ put buffer.old 0 (ack_byte ∷ part at x (bytes_of region (were flash sram usd)))) }
+    requires { T (proper (memories flash.now sram.now usd.now)) × (x ≤ largest_count) × (at + x ≤ (extent_of region).bytes) × (reply_room ≤ length buffer.old) }
+    ensures { (result ≡ x + 1) × (buffer.new ≡ put buffer.old 0 (ack_byte ∷ part at x (bytes_of region (memories flash.now sram.now usd.now)))) }
 {
     match region {
         Region::Flash => say_bytes(flash, at, x, buffer),
@@ -214,8 +214,8 @@ pub fn say(
     usd: &[u8],
     buffer: &mut [u8],
 ) -> usize
-    requires { Holds commands × T (proper (held flash sram usd)) × T (sayable reply) × (reply_room ≤ length buffer.old) }
-    ensures { ((list : List ℕ) → Lists commands list → Said (join (says list reply (were flash sram usd))) result buffer.old buffer.new)
+    requires { Holds commands × T (proper (memories flash.now sram.now usd.now)) × T (sayable reply) × (reply_room ≤ length buffer.old) }
+    ensures { ((list : List ℕ) → Lists commands list → Said (join (says list reply (memories flash.now sram.now usd.now))) result buffer.old buffer.new)
         × (result ≤ reply_room) × (T (fixed reply) → result ≤ fixed_room) }
 {
     match reply {

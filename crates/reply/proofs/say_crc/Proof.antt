@@ -19,7 +19,7 @@ returns c =
     let b = start.args.buffer.now in
     let four = four_bytes start.args.value in (
       refl,
-      after-put-short.put-short.ensures.0 ∙ ap (λ (m : List ℕ). put m 1 four) (sym (put_one b 0 ack_byte)) ∙ put_then b 0 1 (ack_byte ∷ [])
+      after-put-short.put_short.ensures.0 ∙ ap (λ (m : List ℕ). put m 1 four) (sym (put_one b 0 ack_byte)) ∙ put_then b 0 1 (ack_byte ∷ [])
           four refl,
     )
 
@@ -29,5 +29,5 @@ say_crc_spec =
     (tie.spec
     (λ c. search rules)
     (λ c κs. simp length-set (omega arith))
-    (λ c. c.before.before.put-short.auto.0 ∙ length-set c.before.before.before.before.before.args.buffer.now 0 ack_byte)
+    (λ c. c.before.before.put_short.auto.memory ∙ length-set c.before.before.before.before.before.args.buffer.now 0 ack_byte)
     returns)

@@ -18,7 +18,7 @@ returns c =
     let f = start.args.flash.now in
     let e : at + n - at ≡ n = omega arith in
     let v : after-crc.crc.result ≡ word_crc (part at n f) = after-crc.crc.ensures ∙ ap (λ (k : ℕ). word_crc (part at k f)) e in
-    (after-say-crc.say-crc.ensures.0, rw (← v) after-say-crc.say-crc.ensures.1)
+    (after-say-crc.say_crc.ensures.0, rw (← v) after-say-crc.say_crc.ensures.1)
 
 pub say_sum_spec : {M : Type 1} → statement M
 say_sum_spec =
