@@ -11,7 +11,7 @@ returns c =
     let after-look-up = after-commanded.before in
     let after-complemented = after-look-up.before.before in
     rw (← after-complemented.complemented.ensures, ← after-look-up.look_up.ensures, ← after-commanded.commanded.ensures)
-    c.accept-if.ensures
+    c.accept_if.ensures
 
 pub command_ends_spec : {M : Type 1} → statement M
 command_ends_spec =

@@ -14,11 +14,11 @@ returns c =
     let after-xor-from = after-long-count.before.before.before in
     let start = after-xor-from.before.before.before in
     λ view. rw (
-      ← after-xor-from.xor-from.ensures,
+      ← after-xor-from.xor_from.ensures,
       take_two start.args.bytes.now (omega arith),
-      ← after-long-count.long-count.ensures.0,
+      ← after-long-count.long_count.ensures.0,
       ← after-sum.sum.ensures,
-    ) c.accept-if.ensures
+    ) c.accept_if.ensures
 
 pub crc_ends_spec : {M : Type 1} → statement M
 crc_ends_spec =

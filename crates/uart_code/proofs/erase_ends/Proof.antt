@@ -13,4 +13,4 @@ erase_ends_spec =
     (λ c κs. search rules)
     (λ c κs. search rules)
     (λ c κs. search rules)
-    (λ c. rw (← c.before.before.checks-numbered.ensures, ← c.before.erase.ensures) c.accept-if.ensures))
+    (λ c. rw (← c.before.before.checks_numbered.ensures, ← c.before.erase.ensures) c.accept_if.ensures))

@@ -13,4 +13,4 @@ protect_ends_spec =
     (λ c κs. search rules)
     (λ c κs. search rules)
     (λ c κs. search rules)
-    (λ c. λ view. rw (← c.before.before.checks-counted.ensures, ← c.before.protect.ensures) c.accept-if.ensures))
+    (λ c. λ view. rw (← c.before.before.checks_counted.ensures, ← c.before.protect.ensures) c.accept_if.ensures))

@@ -11,7 +11,7 @@ returns c =
     let after-count-of = after_read.before in
     let after-complemented = after-count-of.before.before in
     λ view. rw (← after-complemented.complemented.ensures, ← after-count-of.count_of.ensures.0, ← after_read.read.ensures)
-    c.accept-if.ensures
+    c.accept_if.ensures
 
 pub read_ends_spec : {M : Type 1} → statement M
 read_ends_spec =

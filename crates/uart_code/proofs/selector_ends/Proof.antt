@@ -12,7 +12,7 @@ returns c =
     let after-selector-of = c.before in
     let after-number2 = after-selector-of.before in
     let start = after-number2.before.before.before.before in
-    λ view. rw (take_two start.args.bytes.now (omega arith), ← after-number2.number2.ensures, ← after-selector-of.selector-of.ensures)
+    λ view. rw (take_two start.args.bytes.now (omega arith), ← after-number2.number2.ensures, ← after-selector-of.selector_of.ensures)
     c.selected.ensures
 
 pub selector_ends_spec : {M : Type 1} → statement M

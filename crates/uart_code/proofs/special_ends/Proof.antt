@@ -12,11 +12,11 @@ returns c =
     let after-erase-all-verdict = after-alter.before in
     let after-special-checks = after-erase-all-verdict.before in
     rw (
-      ← after-special-checks.special-checks.ensures,
-      ← after-erase-all-verdict.erase-all-verdict.ensures,
+      ← after-special-checks.special_checks.ensures,
+      ← after-erase-all-verdict.erase_all_verdict.ensures,
       ← after-alter.alter.ensures,
       ← after-judged.judged.ensures,
-    ) c.accept-if.ensures
+    ) c.accept_if.ensures
 
 pub special_ends_spec : {M : Type 1} → statement M
 special_ends_spec =

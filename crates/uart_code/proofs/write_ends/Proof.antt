@@ -13,4 +13,4 @@ write_ends_spec =
     (λ c κs. search rules)
     (λ c κs. search rules)
     (λ c κs. search rules)
-    (λ c. rw (← c.before.before.checks-counted.ensures, ← c.before.write.ensures) c.accept-if.ensures))
+    (λ c. rw (← c.before.before.checks_counted.ensures, ← c.before.write.ensures) c.accept_if.ensures))

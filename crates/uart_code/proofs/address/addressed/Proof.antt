@@ -10,4 +10,4 @@ addressed_spec =
     (λ c. search rules)
     (λ c κs. search rules)
     (λ c κs. search rules)
-    (λ c. rw (← c.before.xor-from.ensures) c.accept-if.ensures))
+    (λ c. rw (← c.before.xor_from.ensures) c.accept_if.ensures))

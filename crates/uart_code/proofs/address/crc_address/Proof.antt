@@ -13,9 +13,9 @@ returns c =
     let after-sector-start = after_kept.before in
     let after-address-in = after-sector-start.before in
     rw (
-      ← after-address-in.address-in.ensures,
-      ← ap (λ (a : Address). a.0) after-address-in.address-in.ensures,
-      ← after-sector-start.sector-start.ensures,
+      ← after-address-in.address_in-address.ensures,
+      ← ap (λ (a : Address). a.0) after-address-in.address_in-address.ensures,
+      ← after-sector-start.sector_start.ensures,
       ← after_kept.kept.ensures,
     ) c.addressed.ensures
 

@@ -12,4 +12,4 @@ jump_address_spec =
     (λ c κs. search rules)
     (λ c κs. search rules)
     (λ c κs. search rules)
-    (λ c. rw (← c.before.before.address-in.ensures, ← c.before.jump.ensures) c.addressed.ensures))
+    (λ c. rw (← c.before.before.address_in.ensures, ← c.before.jump.ensures) c.addressed.ensures))

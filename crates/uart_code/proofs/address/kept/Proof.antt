@@ -10,4 +10,4 @@ kept_spec =
     (λ c κs. search rules)
     (λ c κs. search rules)
     (λ c κs. search rules)
-    (λ c. rw (← c.before.before.number.ensures, ← c.before.answer.ensures) c.accept-if.ensures))
+    (λ c. rw (← c.before.before.number.ensures, ← c.before.answer.ensures) c.accept_if.ensures))

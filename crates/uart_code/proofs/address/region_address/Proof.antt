@@ -13,8 +13,8 @@ returns c =
     let after-known = after_kept.before in
     let after-address-in = after-known.before in
     rw (
-      ← after-address-in.address-in.ensures,
-      ← ap (λ (a : Address). a.0) after-address-in.address-in.ensures,
+      ← after-address-in.address_in-address.ensures,
+      ← ap (λ (a : Address). a.0) after-address-in.address_in-address.ensures,
       ← after-known.known.ensures,
       ← after_kept.kept.ensures,
     ) c.addressed.ensures

@@ -16,4 +16,4 @@ checks_counted_spec =
     (λ c κs. search rules)
     (λ c. omega (arith, ap (λ (n : LessOne). n.0) c.before.of.ensures))
     (λ c κs. search rules)
-    (λ c. rw (c.xor-from.ensures, c.before.before.of.ensures, xor_zero_l (c.before.before.before.before.before.args.x - 1))))
+    (λ c. rw (c.xor_from.ensures, c.before.before.of.ensures, xor_zero_l (c.before.before.before.before.before.args.x - 1))))

@@ -17,7 +17,7 @@ returns c =
     let start = after-of.before.before.before in
     let b = start.args.bytes.now in
     let x = start.args.x in
-    ap (λ (z : ℕ). eqb (get_or b (2 * x) 0) z) (rw after-of.of.ensures at c.xor-from.ensures ∙ sym
+    ap (λ (z : ℕ). eqb (get_or b (2 * x) 0) z) (rw after-of.of.ensures at c.xor_from.ensures ∙ sym
     (ap (λ (z : ℕ). xor_from z (take (2 * x) b)) (xor_byte (x - 1) (omega arith))))
 
 pub checks_numbered_spec : {M : Type 1} → statement M
