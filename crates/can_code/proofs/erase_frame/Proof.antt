@@ -12,4 +12,4 @@ erase_frame_spec =
     (λ c κs. search rules)
     (λ c κs. search rules)
     (λ c κs. search rules)
-    (λ c. rw (← c.before.before.erase.ensures, ← c.before.unless-extra.ensures) c.gathering.ensures))
+    (λ c. rw (← c.before.before.erase-done.ensures, ← c.before.unless_extra.ensures) c.gathering.ensures))

@@ -12,4 +12,4 @@ protect_frame_spec =
     (λ c κs. search rules)
     (λ c κs. search rules)
     (λ c κs. search rules)
-    (λ c. λ view. rw (← c.before.before.protect.ensures, ← c.before.unless-extra.ensures) c.gathering.ensures))
+    (λ c. λ view. rw (← c.before.before.protect-done.ensures, ← c.before.unless_extra.ensures) c.gathering.ensures))

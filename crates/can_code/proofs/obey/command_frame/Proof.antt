@@ -14,4 +14,4 @@ command_frame_spec =
     (λ c κs. search rules)
     (λ c κs. search rules)
     (λ c. search rules)
-    (λ c. rw (no_command_lem c.before.before.before.args.id c.before.if1.false) c.nack.ensures))
+    (λ c. rw (no_command_lem c.before.before.before.args.id c.before.if-id-le-LARGEST_NUMBER.false) c.nack.ensures))

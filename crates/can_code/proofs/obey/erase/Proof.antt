@@ -8,7 +8,7 @@ use Rattle.can.proofs.Carried.{last_two}
 use Rattle.can_code.proofs.obey.erase.Statement.{statement}
 use Rattle.can_code.proofs.obey.erase.Tie as tie
 
-shared_slice_read_number2_2 : tie.Need-shared-slice-read-number2-2
+shared_slice_read_number2_2 : tie.Need-bounds-carried-1
 shared_slice_read_number2_2 c =
     let start = c.before.before.before in
     let h = eqb→eq (length start.args.carried.now) 2 start.requires in
@@ -23,7 +23,7 @@ returns c =
     rw (
       last_two 0 start.args.carried.now (eqb→eq (length start.args.carried.now) 2 start.requires),
       ← after-number2.number2.ensures,
-      ← after-selector-of.selector-of.ensures,
+      ← after-selector-of.selector_of.ensures,
     ) c.selected.ensures
 
 pub erase_spec : {M : Type 1} → statement M

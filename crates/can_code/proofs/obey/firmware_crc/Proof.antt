@@ -8,7 +8,7 @@ use Rattle.can.proofs.Carried.{last_two}
 use Rattle.can_code.proofs.obey.firmware_crc.Statement.{statement}
 use Rattle.can_code.proofs.obey.firmware_crc.Tie as tie
 
-shared_slice_read_long_count_2 : tie.Need-shared-slice-read-long-count-2
+shared_slice_read_long_count_2 : tie.Need-bounds-carried
 shared_slice_read_long_count_2 c =
     let start = c.before.before.before.before in
     let h = eqb→eq (length start.args.carried.now) 6 start.requires in
@@ -22,8 +22,8 @@ returns c =
     let start = after-address-in.before.before in
     λ view. rw (
       last_two 4 start.args.carried.now (eqb→eq (length start.args.carried.now) 6 start.requires),
-      ← after-address-in.address-in.ensures,
-      ← after-long-count.long-count.ensures.0,
+      ← after-address-in.address_in.ensures,
+      ← after-long-count.long_count.ensures.0,
     ) c.sum.ensures
 
 pub firmware_crc_spec : {M : Type 1} → statement M

@@ -16,7 +16,7 @@ returns c =
     let start = after-address-in.before.before in
     λ view. rw (
       last_number 4 start.args.carried.now (eqb→eq (length start.args.carried.now) 5 start.requires),
-      ← after-address-in.address-in.ensures,
+      ← after-address-in.address_in.ensures,
       ← after-count-of.count_of.ensures.0,
     ) c.read.ensures
 

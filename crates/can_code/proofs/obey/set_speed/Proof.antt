@@ -15,4 +15,4 @@ set_speed_spec =
     (λ c. let h = eqb→eq (length c.before.before.args.carried.now) 2 c.before.before.requires in omega arith)
     (λ c κs. search rules)
     (λ c κs. search rules)
-    (λ c. λ view. rw (← c.before.answer.ensures) c.accept-if.ensures))
+    (λ c. λ view. rw (← c.before.answer.ensures) c.accept_if.ensures))

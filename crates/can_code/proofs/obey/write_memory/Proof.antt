@@ -8,7 +8,7 @@ use Rattle.can.proofs.Carried.{last_number}
 use Rattle.can_code.proofs.obey.write_memory.Statement.{statement}
 use Rattle.can_code.proofs.obey.write_memory.Tie as tie
 
-shared_slice_read_count_of : tie.Need-shared-slice-read-count-of
+shared_slice_read_count_of : tie.Need-bounds-carried-4
 shared_slice_read_count_of c =
     let start = c.before.before.before in
     let h = eqb→eq (length start.args.carried.now) 5 start.requires in
@@ -25,11 +25,11 @@ returns c =
     let start = after-address-in.before.before in
     rw (last_number 4 start.args.carried.now (eqb→eq (length start.args.carried.now) 5 start.requires))
     (rw (
-      after-write-verdict.write-verdict.ensures,
+      after-write-verdict.write_verdict.ensures,
       after-answer.answer.ensures,
       after-number.number.ensures,
-      after-address-in.address-in.ensures,
-      after-count-of.count_of.ensures.0,
+      after-address-in.address_in-address.ensures,
+      after-count-of.count_of-x.ensures.0,
     ) at c.judged.ensures)
 
 pub write_memory_spec : {M : Type 1} → statement M
