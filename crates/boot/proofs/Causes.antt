@@ -3,7 +3,6 @@ use mathlib.Core.Path.{◌≡◌, refl, sym, ap, subst, ◌∙◌}
 use mathlib.Core.Bool.{Bool, true, false, not}
 use mathlib.Core.List.{List, [], ◌∷◌}
 use denote.Enum.Declared.{tag_of}
-use borrow.Author.Tests.{not-false}
 use types.Run.{OneOf, miss}
 use Prim.Native.Nat.{ℕ}
 use lib.Dec.{T, eqb}
@@ -76,9 +75,9 @@ accepted_clear m r f s h = by_tests m r f (sound s) (subst T (sym h) tt)
     by_tests false r f k h = absurd h
 
 -- the same of a call that was not turned away
-pub clear : (m r f : Bool) (s : Session) {c : Cause} (accepted : Bool) → c ≡ cause_of m r f s → accepted ≡ accepts c → not accepted ≡ false
+pub clear : (m r f : Bool) (s : Session) {c : Cause} (accepted : Bool) → c ≡ cause_of m r f s → accepted ≡ accepts c → accepted ≡ true
     → Clear m r f (sound s)
-clear m r f s accepted ec ea h = accepted_clear m r f s (ap accepts (sym ec) ∙ sym ea ∙ not-false accepted h)
+clear m r f s accepted ec ea h = accepted_clear m r f s (ap accepts (sym ec) ∙ sym ea ∙ h)
 
 -- what comes of a call where it is accepted
 abbrev pub performed : Given → Outcome

@@ -11,4 +11,4 @@ accepted_spec =
     (λ c κs. search rules)
     (λ c κs. search rules)
     (λ c κs. search rules)
-    (λ c. rw (c.before.before.number.ensures, c.after.ensures, c.before.place.ensures, c.before.before.before.reason.ensures)))
+    (λ c. rw (c.before.before.number.ensures, c.after.ensures, c.before.place.ensures, c.before.before.before.reason-reason.ensures)))

@@ -9,5 +9,5 @@ bears_spec =
     (tie.spec
     (λ c κs. search rules)
     (λ c κs. search rules)
-    (λ c. rw (← c.before.before.on.ensures, c.before.if1.true) c.bears.ensures)
-    (λ c. rw (← c.before.on.ensures, c.if1.false)))
+    (λ c. rw (← c.before.before.on-here.ensures, c.before.if-here.true) c.bears.ensures)
+    (λ c. rw (← c.before.on-here.ensures, c.if-here.false)))

@@ -10,4 +10,4 @@ byte_cause_spec =
     (λ c κs. search rules)
     (λ c κs. search rules)
     (λ c κs. search rules)
-    (λ c. rw (← c.before.before.lengths-right.ensures, ← c.before.has_room.ensures) c.cause.ensures))
+    (λ c. rw (← c.before.before.lengths_right.ensures, ← c.before.has_room.ensures) c.cause.ensures))

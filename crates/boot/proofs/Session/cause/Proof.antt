@@ -9,8 +9,8 @@ unfolding cause_of
 cause_spec =
     tie.close
     (tie.spec
-    (λ c. rw c.if1.true)
-    (λ c. rw (c.before.if1.false, c.if2.true))
-    (λ c. rw (c.before.before.if1.false, c.before.if2.false, c.if3.true))
+    (λ c. rw c.if-not-memories.true)
+    (λ c. rw (c.before.if-not-memories.false, c.if-not-room.true))
+    (λ c. rw (c.before.before.if-not-memories.false, c.before.if-not-room.false, c.if-not-frame.true))
     (λ c κs. search rules)
-    (λ c. rw (c.before.before.before.if1.false, c.before.before.if2.false, c.before.if3.false) c.own-cause.ensures))
+    (λ c. rw (c.before.before.before.if-not-memories.false, c.before.before.if-not-room.false, c.before.if-not-frame.false) c.own_cause.ensures))

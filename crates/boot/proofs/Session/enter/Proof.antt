@@ -9,4 +9,4 @@ enter_spec =
     (tie.spec
     (λ c κs. search rules)
     (λ c κs. search rules)
-    (λ c. rw (← c.before.number.ensures, ← c.none-staged.ensures)))
+    (λ c. rw (← c.before.number.ensures, ← c.none_staged-staged.ensures)))

@@ -8,7 +8,7 @@ returns c =
     let after-is-frame = c.before in
     let after-has-room = after-is-frame.before in
     let after-lengths-right = after-has-room.before in
-    rw (← after-lengths-right.lengths-right.ensures, ← after-has-room.has_room.ensures, ← after-is-frame.is-frame.ensures)
+    rw (← after-lengths-right.lengths_right.ensures, ← after-has-room.has_room.ensures, ← after-is-frame.is_frame.ensures)
     c.cause.ensures
 
 pub frame_cause_spec : {M : Type 1} → statement M

@@ -9,4 +9,4 @@ idle_spec =
     (tie.spec
     (λ c κs. search rules)
     (λ c κs. search rules)
-    (λ c. rw (← c.before.idle-expects.ensures) c.enter.ensures))
+    (λ c. rw (← c.before.idle_expects.ensures) c.enter.ensures))

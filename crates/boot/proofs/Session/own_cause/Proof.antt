@@ -10,7 +10,7 @@ own_cause_spec =
     tie.close
     (tie.spec
     (λ c κs. search rules)
-    (λ c. rw (← c.before.sound.ensures, c.if1.true))
+    (λ c. rw (← c.before.sound-sound.ensures, c.if-not-sound.true))
     (λ c κs. search rules)
-    (λ c. rw (← c.before.before.before.sound.ensures, c.before.before.if1.false, ← c.before.on.ensures, c.if2.true))
-    (λ c. rw (← c.before.before.before.sound.ensures, c.before.before.if1.false, ← c.before.on.ensures, c.if2.false)))
+    (λ c. rw (← c.before.before.before.sound-sound.ensures, c.before.before.if-not-sound.false, ← c.before.on-running.ensures, c.if-running.true))
+    (λ c. rw (← c.before.before.before.sound-sound.ensures, c.before.before.if-not-sound.false, ← c.before.on-running.ensures, c.if-running.false)))

@@ -9,5 +9,5 @@ place_spec =
     tie.close
     (tie.spec
     (λ c κs. search rules)
-    (λ c. rw (eq-eqb c.before.args.reason 0 c.if1.true))
-    (λ c. rw (ne_eqb c.before.before.args.reason 0 c.before.if1.false) c.falls_at.ensures))
+    (λ c. rw (eq-eqb c.before.args.reason 0 c.if-reason-eq-NO_REASON.true))
+    (λ c. rw (ne_eqb c.before.before.args.reason 0 c.before.if-reason-eq-NO_REASON.false) c.falls_at.ensures))

@@ -10,4 +10,4 @@ power_on_spec =
     (tie.spec
     (λ c κs. search rules)
     (λ c κs. search rules)
-    (λ c. rw (c.before.number.ensures, c.none-staged.ensures) (record { session = refl })))
+    (λ c. rw (c.before.number.ensures, c.none_staged.ensures) (record { session = refl })))

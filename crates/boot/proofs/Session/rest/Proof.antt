@@ -9,4 +9,4 @@ rest_spec =
     (tie.spec
     (λ c κs. search rules)
     (λ c κs. search rules)
-    (λ c. rw c.before.enter.ensures at c.at-speed.ensures))
+    (λ c. rw c.before.enter.ensures at c.at_speed.ensures))

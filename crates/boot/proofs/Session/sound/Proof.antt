@@ -10,4 +10,4 @@ sound_spec =
     tie.close
     (tie.spec
     (λ c κs. search rules)
-    (λ c. rw c.before.step-sound.ensures))
+    (λ c. rw c.before.step_sound.ensures))

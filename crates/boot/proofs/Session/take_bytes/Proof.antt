@@ -13,17 +13,17 @@ abbrev given : tie.Start → GivenBytes
 given s =
     given_bytes s.args.self s.args.bytes.now (held s.args.flash s.args.sram s.args.usd) s.args.buffer.now
 
-returns : tie.Need-returns
+returns : tie.Need-returns-then-not-clear
 unfolding slice_cause
 returns c =
     let then1 = c.before in
     let after-accepts = then1.before in
     let after-byte-cause = after-accepts.before in
     let entry = after-byte-cause.before.before.before.before.before.before in
-    slice_refused (given entry) after-byte-cause.byte-cause.result after-byte-cause.byte-cause.ensures
-    (sym after-accepts.accepts.ensures ∙ not-true after-accepts.accepts.result then1.if1.true) c.unanswered.ensures
+    slice_refused (given entry) after-byte-cause.byte_cause-cause.result after-byte-cause.byte_cause-cause.ensures
+    (sym after-accepts.accepts-clear.ensures ∙ then1.if-not-clear.true) c.unanswered.ensures
 
-returns_2 : tie.Need-returns-2
+returns_2 : tie.Need-returns
 unfolding slice_cause
 returns_2 c =
     let after-take-on = c.before.before.before.before.before.before.before.before in
@@ -31,8 +31,8 @@ returns_2 c =
     let after-accepts = else1.before in
     let after-byte-cause = after-accepts.before in
     let entry = after-byte-cause.before.before.before.before.before.before in
-    slice_taken (given entry) after-byte-cause.byte-cause.result after-byte-cause.byte-cause.ensures
-    (sym after-accepts.accepts.ensures ∙ not-false after-accepts.accepts.result else1.if1.false)
+    slice_taken (given entry) after-byte-cause.byte_cause-cause.result after-byte-cause.byte_cause-cause.ensures
+    (sym after-accepts.accepts-clear.ensures ∙ else1.if-not-clear.false)
     after-take-on.take_on.ensures
 
 pub take_bytes_spec : {M : Type 1} → statement M

@@ -7,10 +7,10 @@ use Rattle.boot.proofs.Sound.{sound_taken, sound_expected}
 use Rattle.boot.proofs.Session.take_front.Statement.{statement}
 use Rattle.boot.proofs.Session.take_front.Tie as tie
 
-gather_first_requires : tie.Need-gather-first-requires
+gather_first_requires : tie.Need-gather_first-here-requires
 gather_first_requires c κs = (
-  omega (arith, c.silent-bytes.ensures.0),
-  λ h. let g = c.silent-bytes.ensures.1 h in (sound_taken _ g.firm, sound_expected _ g.firm),
+  omega (arith, c.silent_bytes-silent.ensures.0),
+  λ h. let g = c.silent_bytes-silent.ensures.1 h in (sound_taken _ g.firm, sound_expected _ g.firm),
 )
 
 returns : tie.Need-returns
@@ -22,10 +22,10 @@ returns c =
     let after-lengths-right = after-has-room.before in
     let start = after-lengths-right.before.before.before.before.before.before in
     record {
-      within = omega (arith, after-silent-bytes.silent-bytes.ensures.0, start.requires);
+      within = omega (arith, after-silent-bytes.silent_bytes-silent.ensures.0, start.requires);
       silent = rw
-          (← after-lengths-right.lengths-right.ensures, ← after-has-room.has_room.ensures) after-silent-bytes.silent-bytes.ensures.1;
-      took = rw (← after-gather-first.gather-first.ensures) after-take-byte.take-byte.ensures;
+          (← after-lengths-right.lengths_right-right.ensures, ← after-has-room.has_room.ensures) after-silent-bytes.silent_bytes-silent.ensures.1;
+      took = rw (← after-gather-first.gather_first-here.ensures) after-take-byte.take_byte-taken.ensures;
     }
 
 pub take_front_spec : {M : Type 1} → statement M

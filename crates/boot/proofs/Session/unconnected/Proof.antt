@@ -12,5 +12,5 @@ unconnected_spec =
     (λ c κs. search rules)
     (λ c κs. search rules)
     (λ c κs. search rules)
-    (λ c. rw (← c.before.before.on.ensures, c.before.if1.true) c.answer.ensures)
-    (λ c. rw (← c.before.before.on.ensures, c.before.if1.false) c.answer2.ensures))
+    (λ c. rw (← c.before.before.on.ensures, c.before.if-connects.true) c.answer.ensures)
+    (λ c. rw (← c.before.before.on.ensures, c.before.if-connects.false) c.answer-else-connects.ensures))

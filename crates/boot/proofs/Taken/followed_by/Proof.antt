@@ -9,5 +9,5 @@ followed_by_spec =
     tie.close
     (tie.spec
     (λ c. search rules)
-    (λ c. rw (ne_eqb _ 0 c.if1.true))
-    (λ c. rw (eq-eqb _ 0 c.if1.false)))
+    (λ c. rw (ne_eqb _ 0 c.if-next-ne-NO_REASON.true))
+    (λ c. rw (eq-eqb _ 0 c.if-next-ne-NO_REASON.false)))

@@ -10,24 +10,24 @@ use Rattle.boot.proofs.gathering.silent_bytes.Statement.{statement}
 use Rattle.boot.proofs.gathering.silent_bytes.Tie as tie
 
 -- the start of the call whose test held
-abbrev start : tie.Then1 → tie.Start
+abbrev start : tie.Then-gathers → tie.Start
 start c = c.before.before.before
 
 -- what the test has shown of the memories and the session
-tested : (c : tie.Then1) → T (start c).args.ready × T (on Uart (start c).args.session) × T (sound (start c).args.session)
+tested : (c : tie.Then-gathers) → T (start c).args.ready × T (on Uart (start c).args.session) × T (sound (start c).args.session)
 tested c =
     let after_sound = c.before in
     let After-on = after_sound.before in
     all_three (start c).args.ready (on Uart (start c).args.session) (sound (start c).args.session)
-    (rw (After-on.on.ensures, after_sound.sound.ensures) at c.if1.true)
+    (rw (After-on.on.ensures, after_sound.sound.ensures) at c.if-gathers.true)
 
-sub_least : tie.Need-overflow-sub-least
+sub_least : tie.Need-overflow_sub-session
 sub_least c = omega (arith, sound_taken (start c.before).args.session (tested c.before).2)
 
-sub_least_2 : tie.Need-overflow-sub-least-2
+sub_least_2 : tie.Need-overflow_sub-session-then-gathers
 sub_least_2 c = omega (arith, sound_taken (start c.before).args.session (tested c.before).2)
 
-returns : tie.Need-returns
+returns : tie.Need-returns-then-gathers
 returns c =
     let then1 = c.before.before in
     let t = tested then1 in (
