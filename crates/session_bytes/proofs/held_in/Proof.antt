@@ -11,10 +11,10 @@ returns c =
     let after-long-at2 = after-short-at.before in
     let after-long-at = after-long-at2.before in
     rw (
-      ← after-long-at.long-at.ensures,
-      ← after-long-at2.long-at2.ensures,
-      ← after-short-at.short-at.ensures,
-      ← c.staged-in.ensures,
+      ← after-long-at.long_at.ensures,
+      ← after-long-at2.long_at-2.ensures,
+      ← after-short-at.short_at.ensures,
+      ← c.staged_in.ensures,
     )
 
 pub held_in_spec : {M : Type 1} → statement M

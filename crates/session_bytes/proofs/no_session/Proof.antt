@@ -8,4 +8,4 @@ no_session_spec =
     tie.close
     (tie.spec
     (λ c κs. search rules)
-    (λ c. rw c.power-on.ensures.session))
+    (λ c. rw c.power_on-session.ensures.session))

@@ -12,5 +12,5 @@ read_spec =
     (tie.spec
     (λ c κs. search rules)
     (λ c κs. search rules)
-    (λ c. rw (eq-eqb _ 280 c.before.if1.true) c.held_in.ensures)
-    (λ c. rw (ne_eqb _ 280 c.before.if1.false) c.no-session.ensures))
+    (λ c. rw (eq-eqb _ 280 c.before.if-lent-eq-LENGTH.true) c.held_in.ensures)
+    (λ c. rw (ne_eqb _ 280 c.before.if-lent-eq-LENGTH.false) c.no_session.ensures))
