@@ -18,4 +18,4 @@ head_spec =
     (λ c. search rules)
     (λ c. search rules)
     (λ c. search rules)
-    (λ c. rw (c.xor-from.ensures, c.before.before.before.put-short.ensures.0) refl))
+    (λ c. rw (c.xor_from-sum.ensures, c.before.before.before.put_short.ensures.0) refl))

@@ -13,10 +13,10 @@ use Rattle.host_code.proofs.Behind.{length-numbers, numbers_then}
 use Rattle.host_code.proofs.putting.put_numbers.Statement.{statement}
 use Rattle.host_code.proofs.putting.put_numbers.Tie as tie
 
-abbrev invariant_loop : tie.invariant-loop
+abbrev invariant_loop : tie.invariant-loop-i
 invariant_loop first x room₀ i₀ room i = (i ≤ x) × (length room ≡ length room₀) × (room ≡ put room₀ 4 (numbers_of (sectors_from (sector first) i)))
 
-abbrev decreases_loop : tie.decreases-loop
+abbrev decreases_loop : tie.decreases-loop-i
 decreases_loop first x room₀ i₀ room i = x - i
 
 pub put_numbers_spec : {M : Type 1} → statement M
@@ -34,6 +34,6 @@ put_numbers_spec =
     (λ c κs. search rules)
     (λ c. search rules)
     (λ c. search rules)
-    (λ c. let e : c.before.before.before.before.before.before.before.loop.i + 1 ≡ suc c.before.before.before.before.before.before.before.loop.i = omega arith in let l = length-numbers c.before.before.before.before.before.before.before.before.before.args.first c.before.before.before.before.before.before.before.loop.i in (omega arith, rw c.before.before.copy.ensures (length_over newer _ _ _ ∙ c.before.before.before.before.before.before.before.loop.invariant.1), rw (e, c.before.before.copy.ensures, c.before.before.before.before.before.two.ensures, c.before.before.before.before.before.before.before.loop.invariant.2, numbers_then c.before.before.before.before.before.before.before.before.before.args.first c.before.before.before.before.before.before.before.loop.i) (put_then c.before.before.before.before.before.before.before.before.before.args.room.now 4 (4 + 2 * c.before.before.before.before.before.before.before.loop.i) (numbers_of (sectors_from (sector c.before.before.before.before.before.before.before.before.before.args.first) c.before.before.before.before.before.before.before.loop.i)) (two_bytes (c.before.before.before.before.before.before.before.before.before.args.first + c.before.before.before.before.before.before.before.loop.i)) (omega arith))))
+    (λ c. let e : c.before.before.before.before.before.before.before.loop-i.i + 1 ≡ suc c.before.before.before.before.before.before.before.loop-i.i = omega arith in let l = length-numbers c.before.before.before.before.before.before.before.before.before.args.first c.before.before.before.before.before.before.before.loop-i.i in (omega arith, rw c.before.before.copy.ensures (length_over newer _ _ _ ∙ c.before.before.before.before.before.before.before.loop-i.invariant.1), rw (e, c.before.before.copy.ensures, c.before.before.before.before.before.two-number.ensures, c.before.before.before.before.before.before.before.loop-i.invariant.2, numbers_then c.before.before.before.before.before.before.before.before.before.args.first c.before.before.before.before.before.before.before.loop-i.i) (put_then c.before.before.before.before.before.before.before.before.before.args.room.now 4 (4 + 2 * c.before.before.before.before.before.before.before.loop-i.i) (numbers_of (sectors_from (sector c.before.before.before.before.before.before.before.before.before.args.first) c.before.before.before.before.before.before.before.loop-i.i)) (two_bytes (c.before.before.before.before.before.before.before.before.before.args.first + c.before.before.before.before.before.before.before.loop-i.i)) (omega arith))))
     (λ c. search rules)
-    (λ c. let e : c.before.loop.i ≡ c.before.before.before.args.x = omega arith in rw (← e) c.before.loop.invariant.2))
+    (λ c. let e : c.before.loop-i.i ≡ c.before.before.before.args.x = omega arith in rw (← e) c.before.loop-i.invariant.2))

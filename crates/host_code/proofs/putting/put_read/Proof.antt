@@ -19,4 +19,4 @@ put_read_spec =
     (λ c κs. search rules)
     (λ c. search rules)
     (λ c. search rules)
-    (λ c. (refl, rw (c.before.before.copy2.ensures, c.before.before.before.before.before.before.before.copy.ensures, c.before.before.before.before.before.before.before.before.before.before.head.ensures) (read_in_parts c.before.before.before.before.before.before.before.before.before.before.before.before.args.room.now (flash_address c.before.before.before.before.before.before.before.before.before.before.before.before.args.offset) c.before.before.before.before.before.before.before.before.before.before.before.before.args.n))))
+    (λ c. (refl, rw (c.before.before.copy-2.ensures, c.before.before.before.before.before.before.before.copy.ensures, c.before.before.before.before.before.before.before.before.before.before.head-head.ensures) (read_in_parts c.before.before.before.before.before.before.before.before.before.before.before.before.args.room.now (flash_address c.before.before.before.before.before.before.before.before.before.before.before.before.args.offset) c.before.before.before.before.before.before.before.before.before.before.before.before.args.n))))

@@ -30,4 +30,4 @@ put_write_spec =
     (λ c. search rules)
     (λ c. search rules)
     (λ c. search rules)
-    (λ c. let j = length_part c.before.before.before.before.before.before.before.before.before.before.before.before.before.before.before.before.before.before.before.args.image.now c.before.before.before.before.before.before.before.before.before.before.before.before.before.before.before.before.before.before.before.args.offset c.before.before.before.before.before.before.before.before.before.before.before.before.before.before.before.before.before.before.before.args.n (omega arith) in let l = length-write (flash_address c.before.before.before.before.before.before.before.before.before.before.before.before.before.before.before.before.before.before.before.args.offset) (part c.before.before.before.before.before.before.before.before.before.before.before.before.before.before.before.before.before.before.before.args.offset c.before.before.before.before.before.before.before.before.before.before.before.before.before.before.before.before.before.before.before.args.n c.before.before.before.before.before.before.before.before.before.before.before.before.before.before.before.before.before.before.before.args.image.now) in (omega arith, rw (c.before.before.copy3.ensures, c.before.before.before.before.before.before.before.copy2.ensures, c.before.before.before.before.before.before.before.before.before.before.before.copy.ensures, c.before.before.before.before.before.before.before.before.before.before.before.before.before.before.xor-from.ensures, c.before.before.before.before.before.before.before.before.before.before.before.before.before.before.before.before.head.ensures) (rw (to_the_end c.before.before.before.before.before.before.before.before.before.before.before.before.before.before.before.before.before.before.before.args.offset c.before.before.before.before.before.before.before.before.before.before.before.before.before.before.before.before.before.before.before.args.image.now) (write_in_parts c.before.before.before.before.before.before.before.before.before.before.before.before.before.before.before.before.before.before.before.args.room.now (flash_address c.before.before.before.before.before.before.before.before.before.before.before.before.before.before.before.before.before.before.before.args.offset) c.before.before.before.before.before.before.before.before.before.before.before.before.before.before.before.before.before.before.before.args.n (part c.before.before.before.before.before.before.before.before.before.before.before.before.before.before.before.before.before.before.before.args.offset c.before.before.before.before.before.before.before.before.before.before.before.before.before.before.before.before.before.before.before.args.n c.before.before.before.before.before.before.before.before.before.before.before.before.before.before.before.before.before.before.before.args.image.now) j)))))
+    (λ c. let j = length_part c.before.before.before.before.before.before.before.before.before.before.before.before.before.before.before.before.before.before.before.args.image.now c.before.before.before.before.before.before.before.before.before.before.before.before.before.before.before.before.before.before.before.args.offset c.before.before.before.before.before.before.before.before.before.before.before.before.before.before.before.before.before.before.before.args.n (omega arith) in let l = length-write (flash_address c.before.before.before.before.before.before.before.before.before.before.before.before.before.before.before.before.before.before.before.args.offset) (part c.before.before.before.before.before.before.before.before.before.before.before.before.before.before.before.before.before.before.before.args.offset c.before.before.before.before.before.before.before.before.before.before.before.before.before.before.before.before.before.before.before.args.n c.before.before.before.before.before.before.before.before.before.before.before.before.before.before.before.before.before.before.before.args.image.now) in (omega arith, rw (c.before.before.copy-3.ensures, c.before.before.before.before.before.before.before.copy-2.ensures, c.before.before.before.before.before.before.before.before.before.before.before.copy.ensures, c.before.before.before.before.before.before.before.before.before.before.before.before.before.before.xor_from.ensures, c.before.before.before.before.before.before.before.before.before.before.before.before.before.before.before.before.head-head.ensures) (rw (to_the_end c.before.before.before.before.before.before.before.before.before.before.before.before.before.before.before.before.before.before.before.args.offset c.before.before.before.before.before.before.before.before.before.before.before.before.before.before.before.before.before.before.before.args.image.now) (write_in_parts c.before.before.before.before.before.before.before.before.before.before.before.before.before.before.before.before.before.before.before.args.room.now (flash_address c.before.before.before.before.before.before.before.before.before.before.before.before.before.before.before.before.before.before.before.args.offset) c.before.before.before.before.before.before.before.before.before.before.before.before.before.before.before.before.before.before.before.args.n (part c.before.before.before.before.before.before.before.before.before.before.before.before.before.before.before.before.before.before.before.args.offset c.before.before.before.before.before.before.before.before.before.before.before.before.before.before.before.before.before.before.before.args.n c.before.before.before.before.before.before.before.before.before.before.before.before.before.before.before.before.before.before.before.args.image.now) j)))))

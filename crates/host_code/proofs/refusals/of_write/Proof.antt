@@ -11,6 +11,6 @@ unfolding write_refusal
 of_write_spec =
     tie.close
     (tie.spec
-    (λ c. rw (ne_eqb c.before.args.image 32768 c.if1.true) refl)
+    (λ c. rw (ne_eqb c.before.args.image 32768 c.if-image-ne-FLASH_BYTES.true) refl)
     (λ c κs. search rules)
-    (λ c. rw (eq-eqb c.before.before.args.image 32768 c.before.if1.false) c.of_range.ensures))
+    (λ c. rw (eq-eqb c.before.before.args.image 32768 c.before.if-image-ne-FLASH_BYTES.false) c.of_range.ensures))
