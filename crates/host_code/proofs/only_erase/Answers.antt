@@ -9,7 +9,8 @@ use Rattle.host_code.proofs.only_erase.Goals as goal
 pub put_erase-length-requires-clause-inside : goal.put_erase-length-requires-clause-inside
 put_erase-length-requires-clause-inside c =
     let z : refusal_no (range_refusal c.args.offset c.args.count (length c.args.room.now)) ≡ 0 = cc in
-    (fine_range c.args.offset c.args.count (length c.args.room.now) z).0
+    let f = fine_range c.args.offset c.args.count (length c.args.room.now) z in
+    omega arith
 
 pub put_erase-length-requires-clause-room : goal.put_erase-length-requires-clause-room
 put_erase-length-requires-clause-room c =
