@@ -1,8 +1,6 @@
 -- Head, data and checksum are put one behind the other.
 use borrow.Author.Rules.{rules}
 use native.Mathlib.Omega.{arith}
-use mathlib.Core.Path.{◌∙◌, sym}
-use lib.ListN.{length}
 use Rattle.words.specs.Lists.{part}
 use Rattle.words.proofs.Slices.{length_part, to_the_end}
 use Rattle.host.specs.Ranges.{flash_address}
