@@ -10,8 +10,7 @@ ghost use Rattle.exports.specs.Promise.{PowersOn, Takes, TakesBytes};
 use boot::Session;
 
 // Powers the board on: the session becomes a fresh one.
-#[unsafe(no_mangle)]
-pub extern "C" fn oilthicket_power_on(session: &mut [u8]) -> u8
+pub fn oilthicket_power_on(session: &mut [u8]) -> u8
     ensures { PowersOn session.old result session.new }
 {
     if session.len() != session_bytes::LENGTH {
@@ -22,8 +21,7 @@ pub extern "C" fn oilthicket_power_on(session: &mut [u8]) -> u8
 }
 
 // Takes one UART byte, with the session, the memories and the reply buffer that are lent.
-#[unsafe(no_mangle)]
-pub extern "C" fn oilthicket_take_byte(
+pub fn oilthicket_take_byte(
     session: &mut [u8],
     byte: u8,
     flash: &mut [u8],
@@ -46,8 +44,7 @@ pub extern "C" fn oilthicket_take_byte(
 }
 
 // Takes one CAN frame, with the session, the memories and the reply buffer that are lent.
-#[unsafe(no_mangle)]
-pub extern "C" fn oilthicket_take_frame(
+pub fn oilthicket_take_frame(
     session: &mut [u8],
     frame: &[u8],
     flash: &mut [u8],
@@ -70,8 +67,7 @@ pub extern "C" fn oilthicket_take_frame(
 }
 
 // Takes a slice of UART bytes, with the session, the memories and the buffer for all replies that are lent.
-#[unsafe(no_mangle)]
-pub extern "C" fn oilthicket_take_bytes(
+pub fn oilthicket_take_bytes(
     session: &mut [u8],
     bytes: &[u8],
     flash: &mut [u8],

@@ -6,22 +6,22 @@ use Rattle.session_bytes.specs.Sessions.{session_bytes}
 use Rattle.exports.proofs.oilthicket_power_on.Statement.{statement}
 use Rattle.exports.proofs.oilthicket_power_on.Tie as tie
 
-returns_2 : tie.Need-returns-2
+returns_2 : tie.Need-returns
 returns_2 c =
     let after_write = c.before.before in
     let after-power-on = after_write.before.before in
     let else1 = after-power-on.before in
     record {
-      number = rw (eq-eqb _ 280 else1.if1.false);
-      session = rw (eq-eqb _ 280 else1.if1.false)
-          (after_write.write.ensures.0 ∙ ap session_bytes after-power-on.power-on.ensures.session);
+      number = rw (eq-eqb _ 280 else1.if-session-ne-LENGTH.false);
+      session = rw (eq-eqb _ 280 else1.if-session-ne-LENGTH.false)
+          (after_write.write.ensures.0 ∙ ap session_bytes after-power-on.power_on.ensures.session);
     }
 
 pub oilthicket_power_on_spec : {M : Type 1} → statement M
 oilthicket_power_on_spec =
     tie.close
     (tie.spec
-    (λ c. record { number = rw (ne_eqb _ 280 c.if1.true); session = rw (ne_eqb _ 280 c.if1.true) })
+    (λ c. record { number = rw (ne_eqb _ 280 c.if-session-ne-LENGTH.true); session = rw (ne_eqb _ 280 c.if-session-ne-LENGTH.true) })
     (λ c κs. search rules)
     (λ c κs. search rules)
     (λ c. search rules)

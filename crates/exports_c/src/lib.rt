@@ -1,0 +1,83 @@
+// The calls of the board for programs in C: each is that of `exports`, by the same name and with the same promise.
+#![tactic(auto)]
+
+ghost use Rattle.memories.specs.Lent.{were, are};
+ghost use Rattle.boot.specs.Promise.{given_byte, given_frame, outcome};
+ghost use Rattle.boot.specs.Slices.{given_bytes};
+ghost use Rattle.session_bytes.specs.Sessions.{session_in};
+ghost use Rattle.exports.specs.Promise.{PowersOn, Takes, TakesBytes};
+
+// Powers the board on: the session becomes a fresh one.
+#[unsafe(no_mangle)]
+pub extern "C" fn oilthicket_power_on(session: &mut [u8]) -> u8
+    ensures { PowersOn session.old result session.new }
+{
+    exports::oilthicket_power_on(session)
+}
+
+// Takes one UART byte, with the session, the memories and the reply buffer that are lent.
+#[unsafe(no_mangle)]
+pub extern "C" fn oilthicket_take_byte(
+    session: &mut [u8],
+    byte: u8,
+    flash: &mut [u8],
+    sram: &mut [u8],
+    usd: &mut [u8],
+    buffer: &mut [u8],
+    length: &mut usize,
+    reason: &mut u8,
+    place: &mut u16,
+) -> u8
+    ensures { Takes (outcome (given_byte (session_in session.old) byte (were flash sram usd) buffer.old))
+        buffer.old session.old result length.new reason.new place.new session.new (are flash sram usd)
+        buffer.new }
+{
+    exports::oilthicket_take_byte(
+        session, byte, flash, sram, usd, buffer, length, reason, place,
+    )
+}
+
+// Takes one CAN frame, with the session, the memories and the reply buffer that are lent.
+#[unsafe(no_mangle)]
+pub extern "C" fn oilthicket_take_frame(
+    session: &mut [u8],
+    frame: &[u8],
+    flash: &mut [u8],
+    sram: &mut [u8],
+    usd: &mut [u8],
+    buffer: &mut [u8],
+    length: &mut usize,
+    reason: &mut u8,
+    place: &mut u16,
+) -> u8
+    ensures { Takes (outcome (given_frame (session_in session.old) frame.now (were flash sram usd) buffer.old))
+        buffer.old session.old result length.new reason.new place.new session.new (are flash sram usd)
+        buffer.new }
+{
+    exports::oilthicket_take_frame(
+        session, frame, flash, sram, usd, buffer, length, reason, place,
+    )
+}
+
+// Takes a slice of UART bytes, with the session, the memories and the buffer for all replies that are lent.
+#[unsafe(no_mangle)]
+pub extern "C" fn oilthicket_take_bytes(
+    session: &mut [u8],
+    bytes: &[u8],
+    flash: &mut [u8],
+    sram: &mut [u8],
+    usd: &mut [u8],
+    buffer: &mut [u8],
+    taken: &mut usize,
+    length: &mut usize,
+    reason: &mut u8,
+    place: &mut u16,
+) -> u8
+    ensures { TakesBytes (given_bytes (session_in session.old) bytes.now (were flash sram usd) buffer.old)
+        session.old result taken.new length.new reason.new place.new session.new (are flash sram usd)
+        buffer.new }
+{
+    exports::oilthicket_take_bytes(
+        session, bytes, flash, sram, usd, buffer, taken, length, reason, place,
+    )
+}
