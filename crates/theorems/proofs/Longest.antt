@@ -186,8 +186,8 @@ obeyed_goes Speed = record { holds = tt }
 
 commanded_goes : (view : View) (k : Lookup) → Holds (Goes (behind US.Step.Idle) (up_to US.Step.Idle)) (UC.commanded view k)
 unfolding UC.commanded
-commanded_goes view (Known k) = unless_either (Goes (behind US.Step.Idle) (up_to US.Step.Idle)) view k (refusal _ _) (obeyed_goes k)
-commanded_goes view Unknown = refusal _ _ _
+commanded_goes view (Known k) = unless_either (Goes (behind US.Step.Idle) (up_to US.Step.Idle)) view k (refusal (behind US.Step.Idle) (up_to US.Step.Idle)) (obeyed_goes k)
+commanded_goes view Unknown = refusal (behind US.Step.Idle) (up_to US.Step.Idle) _
 
 -- a byte X - 1 announces at most 256 bytes and their checksum
 awaits_goes : (s : US.Step) (at : ℕ) → T (not (eqb (step_no s) 0)) → behind (step_of (step_no s)) ≡ 0 → T (ltb 0 at && eqb (before (step_of (step_no s))) at)
@@ -213,29 +213,29 @@ selected_goes m = by_tests (leb 0xFFFB m) (leb (m + 1) 32) refl
     by_tests false true e =
         let h = leb-true (m + 1) 32 e in
         record { holds = rw (lt-ltb 0 (2 * (m + 1) + 1) (omega arith), le-leb (2 * (m + 1) + 1 + 0) 65 (omega arith)) tt }
-    by_tests false false e = refusal _ _ _
+    by_tests false false e = refusal (behind US.Step.EraseSelector) (up_to US.Step.EraseSelector) _
 
 -- a step whose bytes are all there; where it is one byte, that is below 256
 complete_goes : (s : US.Step) (e a : ℕ) (bytes : List ℕ) (view : View) → T (expects s e) → (T (eqb e 1) → get_or bytes 0 0 < 256)
     → Holds (Goes (behind s) (up_to s)) (UC.complete s e a bytes view)
 unfolding UC.complete
-complete_goes US.Step.Idle e a bytes view x h = either (Goes _ _) _ (commanded_goes view _) (refusal _ _ _)
-complete_goes US.Step.ReadAddress e a bytes view x h = addressed_goes _ _ _ (kept_goes _ _ _ _ _ tt) bytes
-complete_goes US.Step.JumpAddress e a bytes view x h = addressed_goes _ _ _ (λ z. jumping_made (Goes _ _) (refusal _ _) z (record { holds = tt })) bytes
-complete_goes US.Step.WriteAddress e a bytes view x h = addressed_goes _ _ _ (kept_goes _ _ _ _ _ tt) bytes
-complete_goes US.Step.CrcAddress e a bytes view x h = addressed_goes _ _ _ (kept_goes _ _ _ _ _ tt) bytes
-complete_goes US.Step.ReadLength e a bytes view x h = either (Goes _ _) _ (reading_made (Goes _ _) (refusal _ _) _ _ (λ r at e. record { holds = tt })) (refusal _ _ _)
-complete_goes US.Step.WriteLength e a bytes view x h = awaits_goes US.Step.WriteData _ tt refl tt bytes (h x)
+complete_goes US.Step.Idle e a bytes view x h = either (Goes (behind US.Step.Idle) (up_to US.Step.Idle)) _ (commanded_goes view _) (refusal (behind US.Step.Idle) (up_to US.Step.Idle) _)
+complete_goes US.Step.ReadAddress e a bytes view x h = addressed_goes (behind US.Step.ReadAddress) (up_to US.Step.ReadAddress) _ (kept_goes (behind US.Step.ReadAddress) (up_to US.Step.ReadAddress) _ _ _ tt) bytes
+complete_goes US.Step.JumpAddress e a bytes view x h = addressed_goes (behind US.Step.JumpAddress) (up_to US.Step.JumpAddress) _ (λ z. jumping_made (Goes (behind US.Step.JumpAddress) (up_to US.Step.JumpAddress)) (refusal (behind US.Step.JumpAddress) (up_to US.Step.JumpAddress)) z (record { holds = tt })) bytes
+complete_goes US.Step.WriteAddress e a bytes view x h = addressed_goes (behind US.Step.WriteAddress) (up_to US.Step.WriteAddress) _ (kept_goes (behind US.Step.WriteAddress) (up_to US.Step.WriteAddress) _ _ _ tt) bytes
+complete_goes US.Step.CrcAddress e a bytes view x h = addressed_goes (behind US.Step.CrcAddress) (up_to US.Step.CrcAddress) _ (kept_goes (behind US.Step.CrcAddress) (up_to US.Step.CrcAddress) _ _ _ tt) bytes
+complete_goes US.Step.ReadLength e a bytes view x h = either (Goes (behind US.Step.ReadLength) (up_to US.Step.ReadLength)) _ (reading_made (Goes (behind US.Step.ReadLength) (up_to US.Step.ReadLength)) (refusal (behind US.Step.ReadLength) (up_to US.Step.ReadLength)) _ _ (λ r at e. record { holds = tt })) (refusal (behind US.Step.ReadLength) (up_to US.Step.ReadLength) _)
+complete_goes US.Step.WriteLength e a bytes view x h = awaits_goes US.Step.WriteData (up_to US.Step.WriteLength) tt refl tt bytes (h x)
 complete_goes US.Step.WriteData e a bytes view x h =
-    either (Goes _ _) _ (writing_made (Goes _ _) (refusal _ _) view _ _ (λ r at e. written_goes _ _ r at _)) (refusal _ _ _)
+    either (Goes (behind US.Step.WriteData) (up_to US.Step.WriteData)) _ (writing_made (Goes (behind US.Step.WriteData) (up_to US.Step.WriteData)) (refusal (behind US.Step.WriteData) (up_to US.Step.WriteData)) view _ _ (λ r at e. written_goes (behind US.Step.WriteData) (up_to US.Step.WriteData) r at _)) (refusal (behind US.Step.WriteData) (up_to US.Step.WriteData) _)
 complete_goes US.Step.EraseSelector e a bytes view x h = selected_goes _
-complete_goes US.Step.SpecialCheck e a bytes view x h = either (Goes _ _) _ (judged_either (Goes _ _) _ (refusal _ _) (record { holds = tt })) (refusal _ _ _)
+complete_goes US.Step.SpecialCheck e a bytes view x h = either (Goes (behind US.Step.SpecialCheck) (up_to US.Step.SpecialCheck)) _ (judged_either (Goes (behind US.Step.SpecialCheck) (up_to US.Step.SpecialCheck)) _ (refusal (behind US.Step.SpecialCheck) (up_to US.Step.SpecialCheck)) (record { holds = tt })) (refusal (behind US.Step.SpecialCheck) (up_to US.Step.SpecialCheck) _)
 complete_goes US.Step.EraseList e a bytes view x h =
-    either (Goes _ _) _ (erasing_made (Goes _ _) (refusal _ _) view bytes _ (λ t. record { holds = tt })) (refusal _ _ _)
-complete_goes US.Step.ProtectLength e a bytes view x h = awaits_goes US.Step.ProtectList _ tt refl tt bytes (h x)
+    either (Goes (behind US.Step.EraseList) (up_to US.Step.EraseList)) _ (erasing_made (Goes (behind US.Step.EraseList) (up_to US.Step.EraseList)) (refusal (behind US.Step.EraseList) (up_to US.Step.EraseList)) view bytes _ (λ t. record { holds = tt })) (refusal (behind US.Step.EraseList) (up_to US.Step.EraseList) _)
+complete_goes US.Step.ProtectLength e a bytes view x h = awaits_goes US.Step.ProtectList (up_to US.Step.ProtectLength) tt refl tt bytes (h x)
 complete_goes US.Step.ProtectList e a bytes view x h =
-    either (Goes _ _) _ (protecting_made (Goes _ _) (refusal _ _) bytes _ (λ t. record { holds = tt })) (refusal _ _ _)
-complete_goes US.Step.CrcCount e a bytes view x h = either (Goes _ _) _ (summing_made (Goes _ _) (refusal _ _) _ _ (λ at e. record { holds = tt })) (refusal _ _ _)
+    either (Goes (behind US.Step.ProtectList) (up_to US.Step.ProtectList)) _ (protecting_made (Goes (behind US.Step.ProtectList) (up_to US.Step.ProtectList)) (refusal (behind US.Step.ProtectList) (up_to US.Step.ProtectList)) bytes _ (λ t. record { holds = tt })) (refusal (behind US.Step.ProtectList) (up_to US.Step.ProtectList) _)
+complete_goes US.Step.CrcCount e a bytes view x h = either (Goes (behind US.Step.CrcCount) (up_to US.Step.CrcCount)) _ (summing_made (Goes (behind US.Step.CrcCount) (up_to US.Step.CrcCount)) (refusal (behind US.Step.CrcCount) (up_to US.Step.CrcCount)) _ _ (λ at e. record { holds = tt })) (refusal (behind US.Step.CrcCount) (up_to US.Step.CrcCount) _)
 
 -- ---- the session after a byte
 
