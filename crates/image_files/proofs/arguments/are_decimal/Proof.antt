@@ -1,6 +1,5 @@
 -- Before each turn the characters passed were digits and the others are all digits exactly where all of them are.
 use native.Mathlib.Omega.{arith}
-use borrow.Author.Rules.{rules}
 use mathlib.Core.Path.{◌≡◌, refl, sym, ◌∙◌}
 use mathlib.Core.Bool.{◌&&◌}
 use Prim.Native.Nat.{◌≤◌, ◌-◌}
@@ -11,26 +10,26 @@ use Rattle.image_files.specs.Arguments.{is_decimal}
 use Rattle.image_files.proofs.arguments.are_decimal.Statement.{statement}
 use Rattle.image_files.proofs.arguments.are_decimal.Tie as tie
 
-abbrev invariant_loop : tie.invariant-loop
+abbrev invariant_loop : tie.invariant-loop-i
 invariant_loop text n good₀ i₀ good i = (i ≤ n) × ((good && all is_decimal (drop i text)) ≡ all is_decimal text)
 
-abbrev decreases_loop : tie.decreases-loop
+abbrev decreases_loop : tie.decreases-loop-i
 decreases_loop text n good₀ i₀ good i = n - i
 
-loop_again : tie.Need-loop-preserved invariant_loop decreases_loop
+loop_again : tie.Need-loop-i-preserved invariant_loop decreases_loop
 loop_again c =
     let at-loop = c.before.before.before in
     let start = at-loop.before in (
       omega arith,
-      one_more is_decimal at-loop.loop.good start.args.text.now at-loop.loop.i (omega arith) ∙ at-loop.loop.invariant.1,
+      one_more is_decimal at-loop.loop-i.good start.args.text.now at-loop.loop-i.i (omega arith) ∙ at-loop.loop-i.invariant.1,
     )
 
 returns : tie.Need-returns invariant_loop decreases_loop
 returns c =
     let at-loop = c.before in
     let start = at-loop.before in
-    let e : at-loop.loop.i ≡ length start.args.text.now = omega arith in
-    sym (none_more is_decimal at-loop.loop.good start.args.text.now) ∙ rw e at at-loop.loop.invariant.1
+    let e : at-loop.loop-i.i ≡ length start.args.text.now = omega arith in
+    sym (none_more is_decimal at-loop.loop-i.good start.args.text.now) ∙ rw e at at-loop.loop-i.invariant.1
 
 pub are_decimal_spec : {M : Type 1} → statement M
 are_decimal_spec =

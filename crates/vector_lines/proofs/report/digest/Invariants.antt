@@ -1,0 +1,6 @@
+-- Both sums stay below the modulus.
+use Rattle.std.proofs.Common.{◌<◌}
+use Rattle.vector_lines.proofs.report.digest.Given as goal
+
+abbrev pub invariant-loop-i : goal.invariant-loop-i
+invariant-loop-i l = (l.low < 65521) × (l.high < 65521)
