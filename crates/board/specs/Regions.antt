@@ -1,6 +1,6 @@
 -- Where bytes lie: document 01, "Valid range", and the addresses of Jump and CRC.
 use Rattle.std.specs.Prelude.{ℕ, ◌+◌, ◌-◌, Bool, true, false, ◌&&◌, List, leb}
-use Rattle.words.specs.Choice.{if◌then◌else◌}
+use Rattle.std.specs.Prelude.{if◌then◌else◌}
 use Rattle.board.specs.Board.{flash, sram, usd}
 use Rattle.board.specs.Quantities.{offset_in, sector_at, is_start, sectors_from}
 use Rattle.board.specs.declared.Address.{Address}

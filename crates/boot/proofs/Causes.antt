@@ -6,7 +6,7 @@ use denote.Enum.Declared.{tag_of}
 use types.Run.{OneOf, miss}
 use Prim.Native.Nat.{ℕ}
 use lib.Dec.{T, eqb}
-use Rattle.words.specs.Choice.{if◌then◌else◌}
+use Rattle.std.specs.Prelude.{if◌then◌else◌}
 use Rattle.boot.specs.Session.{on, sound}
 use Rattle.boot.specs.Causes.{cause_no, accepts, cause_of}
 use Rattle.boot.specs.Calls.{State, Input, Outcome, view_in, cause_for, decide, perform, refused, call}

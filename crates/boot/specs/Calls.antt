@@ -1,6 +1,6 @@
 -- The three calls as one function from input and state to outcome, and runs of inputs.
 use Rattle.std.specs.Prelude.{ℕ, true, List, [], ◌∷◌, leb}
-use Rattle.words.specs.Choice.{if◌then◌else◌}
+use Rattle.std.specs.Prelude.{if◌then◌else◌}
 use Rattle.words.specs.Lists.{join}
 use Rattle.board.specs.View.{view_of}
 use Rattle.board.specs.declared.View.{View}

@@ -1,6 +1,6 @@
 -- The five causes, in their order: document 01, "Calls and the five causes".
 use Rattle.std.specs.Prelude.{ℕ, ◌≡◌, Bool, true, false, not, [], ◌∷◌, map}
-use Rattle.words.specs.Choice.{if◌then◌else◌}
+use Rattle.std.specs.Prelude.{if◌then◌else◌}
 use Rattle.boot.specs.Session.{on, sound}
 use Rattle.carriers.specs.declared.Carrier.TheVariants.{Running}
 use Rattle.boot.specs.declared.Cause.{Cause}

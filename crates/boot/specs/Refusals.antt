@@ -1,6 +1,6 @@
 -- Why a call is refused, in the paper's numbers, and that a refused call has changed nothing.
 use Rattle.std.specs.Prelude.{ℕ, ◌≡◌, not, List, eqb, leb}
-use Rattle.words.specs.Choice.{if◌then◌else◌}
+use Rattle.std.specs.Prelude.{if◌then◌else◌}
 use Rattle.frames.specs.Frames.{classic, is_frame}
 use Rattle.memories.specs.Memories.{proper}
 use Rattle.boot.specs.Session.{sound}

@@ -1,6 +1,6 @@
 -- The session: document 01, "Calls and the five causes".
 use Rattle.std.specs.Prelude.{ℕ, ◌+◌, Bool, ◌&&◌, List, length, eqb, leb, ltb}
-use Rattle.words.specs.Choice.{if◌then◌else◌}
+use Rattle.std.specs.Prelude.{if◌then◌else◌}
 use Rattle.memories.specs.Effects.{no_bytes}
 use Rattle.command.specs.Progress.{Progress, progress_at, fitting, staged_with}
 use Rattle.command.specs.declared.Next.{Next}

@@ -1,7 +1,7 @@
 -- A slice of UART bytes that is taken by one call: document 02, Wish 4.
 use Rattle.std.specs.Prelude.{ℕ, zero, suc, ◌+◌, ◌-◌, ◌<◌, ◌≡◌, ◌&&◌, eqb, leb, length, take, get_or}
 use mathlib.Core.List.{List, [], ◌∷◌, map, foldl}
-use Rattle.words.specs.Choice.{if◌then◌else◌}
+use Rattle.std.specs.Prelude.{if◌then◌else◌}
 use Rattle.words.specs.Lists.{join}
 use Rattle.memories.specs.Memories.{Memories, proper}
 use Rattle.command.specs.Why.{no_reason}

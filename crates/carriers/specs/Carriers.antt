@@ -1,6 +1,6 @@
 -- The carriers, and what a session may expect on each: document 01, "Calls and the five causes".
 use Rattle.std.specs.Prelude.{ℕ, ◌≡◌, Bool, ◌&&◌, [], ◌∷◌, map, length, eqb, ltb}
-use Rattle.words.specs.Choice.{if◌then◌else◌}
+use Rattle.std.specs.Prelude.{if◌then◌else◌}
 use Rattle.uart.specs.Steps as U
 use Rattle.can.specs.Steps as C
 use Rattle.carriers.specs.declared.Carrier.{Carrier}

@@ -6,7 +6,7 @@ use mathlib.Core.List.{List, [], ◌∷◌}
 use native.Mathlib.Omega.{arith}
 use lib.Dec.{T, eqb, leb, leb→le, le→leb, eqb_refl}
 use borrow.Author.Tests.{leb-true, leb-false}
-use Rattle.words.specs.Choice.{if◌then◌else◌}
+use Rattle.std.specs.Prelude.{if◌then◌else◌}
 use Rattle.words.specs.Lists.{any, all}
 use Rattle.words.proofs.Tests.{both_left, both_right, chosen}
 use Rattle.command.specs.Decision.{if◌gives◌else◌, nack, judged}

@@ -1,6 +1,6 @@
 -- The commands and their numbers: document 01, "Protected commands", and the lists of both conversations.
 use Rattle.std.specs.Prelude.{ℕ, Bool, true, false, List, [], ◌∷◌, ◌++◌, eqb}
-use Rattle.words.specs.Choice.{if◌then◌else◌}
+use Rattle.std.specs.Prelude.{if◌then◌else◌}
 use Rattle.command.specs.declared.Command.{Command}
 use Rattle.command.specs.declared.Command.TheVariants.{GetCommands, GetVersion, GetDeviceId, ReadMemory, Jump, WriteMemory, Erase}
 use Rattle.command.specs.declared.Command.TheVariants.{ProgramProtect, ProgramUnprotect, AccessProtect, AccessUnprotect, FirmwareCrc}

@@ -1,6 +1,6 @@
 -- Which of several reasons is given: document 02, Wish 2, "Reasons are tested in this order".
 use Rattle.std.specs.Prelude.{ℕ, ◌≡◌, Bool, true, not, ◌&&◌, ◌||◌, List, [], ◌∷◌, map, T, eqb, leb, ltb}
-use Rattle.words.specs.Choice.{if◌then◌else◌}
+use Rattle.std.specs.Prelude.{if◌then◌else◌}
 use Rattle.words.specs.Lists.{any, all}
 use Rattle.command.specs.Why.{reason, no_reason, reason_of}
 use Rattle.command.specs.declared.Decision.{Decision}

@@ -1,7 +1,7 @@
 -- CRC-32/MPEG-2, high bit first, no reflection, no final XOR: document 01, "CRC".
 use Rattle.std.specs.Prelude.{ℕ, zero, suc, ◌*◌, ◌%◌, ◌^◌, ◌≡◌, List, [], ◌∷◌, leb}
 use Rattle.std.specs.Int.Bits.{bit_xor}
-use Rattle.words.specs.Choice.{if◌then◌else◌}
+use Rattle.std.specs.Prelude.{if◌then◌else◌}
 use Rattle.words.specs.Hex.{hex}
 
 -- the polynomial, and the register at the start

@@ -12,7 +12,7 @@ use lib.ListN.{length, set, take, drop, length-append, length-drop}
 use lib.Seq.{take-append_seam}
 use Rattle.words.specs.Over.{put, newer}
 use Rattle.words.proofs.Over.{over_none, put_one, put_then}
-use Rattle.words.specs.Choice.{if◌then◌else◌}
+use Rattle.std.specs.Prelude.{if◌then◌else◌}
 use Rattle.memories.specs.Memories.{Memories}
 use Rattle.memories.specs.Effects.{effect}
 use Rattle.command.specs.Says.{says}

@@ -9,7 +9,7 @@ use lib.Dec.{eqb, leb}
 use lib.ListN.{length, take, length-append}
 use lib.Seq.{take_all, take-append-le, length-take-le}
 use borrow.Author.Tests.{leb-true, leb-false, lt-ltb}
-use Rattle.words.specs.Choice.{if◌then◌else◌}
+use Rattle.std.specs.Prelude.{if◌then◌else◌}
 use Rattle.memories.specs.Memories.{fresh_memories}
 use Rattle.boot.specs.Calls.{State, powered}
 use Rattle.desk_lines.specs.Lines.{line_feed}

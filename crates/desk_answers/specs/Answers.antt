@@ -2,7 +2,7 @@
 use Rattle.std.specs.Prelude.{ℕ, Bool, List, [], ◌∷◌, ◌++◌, map, drop}
 use Rattle.can.specs.Conversation.{can_room}
 use Rattle.boot.specs.Calls.{State, Input, Power, Byte, Framed, Outcome, call}
-use Rattle.words.specs.Choice.{if◌then◌else◌}
+use Rattle.std.specs.Prelude.{if◌then◌else◌}
 use Rattle.words.specs.Hex.{space}
 use Rattle.desk_lines.specs.Lines.{line_feed, fields, frame_written, kind_of}
 use Rattle.desk_print.specs.Digits.{decimal}

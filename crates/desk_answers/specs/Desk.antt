@@ -1,6 +1,6 @@
 -- The program desk, over a whole input and character by character: document 01, "The program desk".
 use Rattle.std.specs.Prelude.{ℕ, suc, ◌≡◌, Bool, List, [], ◌∷◌, ◌++◌, eqb, ltb, length}
-use Rattle.words.specs.Choice.{if◌then◌else◌}
+use Rattle.std.specs.Prelude.{if◌then◌else◌}
 use Rattle.memories.specs.Memories.{fresh_memories}
 use Rattle.boot.specs.Calls.{State, powered}
 use Rattle.desk_lines.specs.Lines.{line_feed, most_characters}

@@ -1,7 +1,7 @@
 -- Why a command was refused: the line that desk prints for a NACK where it is asked for reasons (document 02, Wish 2).
 use Rattle.std.specs.Prelude.{ℕ, ◌≡◌, List, [], ◌∷◌, ◌++◌, map, eqb, get_or}
 use Prim.Native.String.{String}
-use Rattle.words.specs.Choice.{if◌then◌else◌}
+use Rattle.std.specs.Prelude.{if◌then◌else◌}
 use Rattle.words.specs.Texts.{characters}
 use Rattle.command.specs.Numbers.{whys}
 use Rattle.command.specs.Why.{no_reason, reason}

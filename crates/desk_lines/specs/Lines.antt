@@ -1,6 +1,6 @@
 -- What is a line of which kind: document 01, "The program desk".
 use Rattle.std.specs.Prelude.{ℕ, ◌+◌, ◌*◌, Bool, true, false, ◌&&◌, List, [], ◌∷◌, eqb, leb, ltb, length, get_or, drop}
-use Rattle.words.specs.Choice.{if◌then◌else◌}
+use Rattle.std.specs.Prelude.{if◌then◌else◌}
 use Rattle.frames.specs.Frames.{classic, frame}
 use Rattle.words.specs.Hex.{space, field_characters, value_of}
 use Rattle.desk_lines.specs.Digits.{is_digit, byte_in}

@@ -5,7 +5,7 @@ use mathlib.Core.List.{List}
 use Prim.Native.Nat.{ℕ}
 use lib.Dec.{T, eqb→eq}
 use lib.ListN.{length}
-use Rattle.words.specs.Choice.{if◌then◌else◌}
+use Rattle.std.specs.Prelude.{if◌then◌else◌}
 use Rattle.boot.specs.Session.{sound}
 use Rattle.session_bytes.specs.Sessions.{session_length, holds_session, held_in, no_session, session_in}
 

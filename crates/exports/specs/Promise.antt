@@ -1,6 +1,6 @@
 -- What each exported call promises: every part of what it gives back and every byte lent.
 use Rattle.std.specs.Prelude.{ℕ, ◌≡◌, List}
-use Rattle.words.specs.Choice.{if◌then◌else◌}
+use Rattle.std.specs.Prelude.{if◌then◌else◌}
 use Rattle.memories.specs.Memories.{Memories}
 use Rattle.boot.specs.Session.{fresh}
 use Rattle.boot.specs.Causes.{cause_no, accepts}

@@ -1,6 +1,6 @@
 -- The commands for a range of flash: document 02, Wish 5.
 use Rattle.std.specs.Prelude.{ℕ, zero, suc, ◌+◌, ◌-◌, min, List, [], ◌∷◌, map, eqb}
-use Rattle.words.specs.Choice.{if◌then◌else◌}
+use Rattle.std.specs.Prelude.{if◌then◌else◌}
 use Rattle.words.specs.Lists.{part}
 use Rattle.board.specs.Board.{flash}
 use Rattle.board.specs.Quantities.{largest_count}

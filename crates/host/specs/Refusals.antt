@@ -1,6 +1,6 @@
 -- Why no command is made: document 02, Wish 5, "Refusals, in this order".
 use Rattle.std.specs.Prelude.{ℕ, ◌+◌, not, eqb, leb}
-use Rattle.words.specs.Choice.{if◌then◌else◌}
+use Rattle.std.specs.Prelude.{if◌then◌else◌}
 use Rattle.board.specs.Board.{flash}
 use Rattle.host.specs.declared.Refusal.{Refusal}
 use Rattle.host.specs.declared.Refusal.TheVariants.{Accepted, WrongImage, OutsideFlash, ShortRoom}

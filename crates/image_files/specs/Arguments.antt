@@ -1,6 +1,6 @@
 -- Numbers as a program's arguments write them: decimal, of one to five digits; a shift may be negative.
 use Rattle.std.specs.Prelude.{ℕ, ◌+◌, ◌*◌, ◌-◌, Bool, ◌&&◌, List, [], ◌∷◌, eqb, leb, pos, ◌-ℤ◌, length, get_or, drop}
-use Rattle.words.specs.Choice.{if◌then◌else◌}
+use Rattle.std.specs.Prelude.{if◌then◌else◌}
 use Rattle.words.specs.Lists.{all}
 use Rattle.image_files.specs.declared.Number.{Number}
 use Rattle.image_files.specs.declared.Number.TheVariants.{Is, Wrong}

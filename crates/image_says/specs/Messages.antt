@@ -1,6 +1,6 @@
 -- What is said of a file: how much it loads, or where and why it is refused, in the way of compilers.
 use Rattle.std.specs.Prelude.{ℕ, ◌-◌, Bool, ◌||◌, List, [], ◌∷◌, ◌++◌, eqb, ℤ, get_or}
-use Rattle.words.specs.Choice.{if◌then◌else◌}
+use Rattle.std.specs.Prelude.{if◌then◌else◌}
 use Rattle.desk_print.specs.Digits.{decimal}
 use Rattle.records.specs.Ends.{line_feed, lines_of}
 use Rattle.records.specs.Records.{digit, type_in}

@@ -10,7 +10,7 @@ use lib.IntN.{ℤ, pos, negsuc, ◌+ℤ◌}
 use lib.ListN.{length, get_or, drop}
 use lib.Seq.{get_or-take, get_or-drop, drop-cons, drop-length}
 use borrow.Author.Tests.{leb-true}
-use Rattle.words.specs.Choice.{if◌then◌else◌}
+use Rattle.std.specs.Prelude.{if◌then◌else◌}
 use Rattle.words.specs.Lists.{any, part}
 use Rattle.words.proofs.Slices.{length_part}
 use Rattle.records.specs.Records.{is_good, line_of}

@@ -10,7 +10,7 @@ use lib.IntN.{ℤ}
 use lib.ListN.{length, get_or, drop, length-take, length-drop}
 use lib.Seq.{get_or-take, get_or-drop}
 use borrow.Author.Tests.{eqb-true, not-true, not-false, le-leb, lt-ltb}
-use Rattle.words.specs.Choice.{if◌then◌else◌}
+use Rattle.std.specs.Prelude.{if◌then◌else◌}
 use Rattle.words.specs.Lists.{any, part}
 use Rattle.words.specs.Over.{within}
 use Rattle.records.specs.Records.{letter_s, head_characters, counted_from, kind_by, type_in, count_in, least, fits_kind, is_good, line_of}

@@ -1,6 +1,6 @@
 -- What a file does to an image: document 02, Wish 1.
 use Rattle.std.specs.Prelude.{ℕ, suc, Bool, true, false, not, ◌||◌, List, [], ◌∷◌, eqb, ℤ, length, replicate}
-use Rattle.words.specs.Choice.{if◌then◌else◌}
+use Rattle.std.specs.Prelude.{if◌then◌else◌}
 use Rattle.words.specs.Lists.{any, part}
 use Rattle.words.specs.Over.{put}
 use Rattle.board.specs.Board.{flash}

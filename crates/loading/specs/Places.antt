@@ -1,6 +1,6 @@
 -- Where a line's data go: document 02, Wish 1, the load shift and flash.
 use Rattle.std.specs.Prelude.{ℕ, Bool, true, false, ◌&&◌, List, ltb, ℤ, pos, negsuc, ◌+ℤ◌}
-use Rattle.words.specs.Choice.{if◌then◌else◌}
+use Rattle.std.specs.Prelude.{if◌then◌else◌}
 use Rattle.board.specs.Board.{address, flash}
 use Rattle.board.specs.Quantities.{offset_in}
 use Rattle.board.specs.Regions.{holds}

@@ -7,10 +7,10 @@ use native.Mathlib.Omega.{arith}
 use lib.Dec.{eqb, leb, ltb}
 use lib.ListN.{length, get_or, length-replicate, get_or-replicate}
 use borrow.Author.Tests.{eqb-true, eqb-false, le-leb, lt-ltb, le-ltb, leb-true}
-use Rattle.words.specs.Choice.{if◌then◌else◌}
+use Rattle.std.specs.Prelude.{if◌then◌else◌}
 use Rattle.words.specs.Over.{newer, put, within}
 use Rattle.words.proofs.Over.{over_at, length_over}
-use Rattle.words.proofs.Tests.{same-choice}
+use Rattle.words.proofs.Tests.{same_choice}
 use Rattle.board.specs.Board as B
 use Rattle.board.specs.Quantities.{start_of, sector_at, named}
 use Rattle.board.specs.declared.Sector.{Sector}
@@ -66,7 +66,7 @@ erased_at f (k ∷ ks) i h =
     ∙ by_tests (eqb k.0 (i / 1024)) (named ks (sector_at i))
   where
     by_tests : (s t : Bool) → (if t then erased_byte else if s then erased_byte else get_or f i 0) ≡ (if s || t then erased_byte else get_or f i 0)
-    by_tests true t = same-choice t erased_byte
+    by_tests true t = same_choice t erased_byte
     by_tests false t = refl
 
 -- the length stays

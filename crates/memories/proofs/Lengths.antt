@@ -5,7 +5,7 @@ use mathlib.Core.List.{List}
 use Prim.Native.Nat.{ℕ}
 use lib.Dec.{T}
 use lib.ListN.{length, take, length-set, length-replicate}
-use Rattle.words.specs.Choice.{if◌then◌else◌}
+use Rattle.std.specs.Prelude.{if◌then◌else◌}
 use Rattle.words.proofs.Over.{length_over}
 use Rattle.board.specs.Quantities.{first_indexed, first_numbered}
 use Rattle.board.specs.Usd.{protection_on}

@@ -12,7 +12,7 @@ use lib.Seq.{get_or-set_same, get_or-set_other}
 use lib.Bits.{bit_and, and_shr, and_mod, and_mask, and_zero_r, and_le_l}
 use borrow.Author.Tests.{eq-eqb, ne_eqb, eqb-true, eqb-false, le-leb, lt-ltb}
 use Rattle.words.specs.Bytes.{bit}
-use Rattle.words.specs.Choice.{if◌then◌else◌}
+use Rattle.std.specs.Prelude.{if◌then◌else◌}
 use Rattle.words.specs.Lists.{all}
 use Rattle.words.specs.Over.{newer, within}
 use Rattle.words.proofs.Over.{length_over, over_within, over_at}

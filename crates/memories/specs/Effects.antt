@@ -1,7 +1,7 @@
 -- What each change does to the memories: document 01, "Effects shared by both carriers".
 use Rattle.std.specs.Prelude.{ℕ, ◌+◌, Bool, true, ◌&&◌, List, [], ◌∷◌, take, replicate, leb}
 use Rattle.std.specs.Int.Bits.{bit_and}
-use Rattle.words.specs.Choice.{if◌then◌else◌}
+use Rattle.std.specs.Prelude.{if◌then◌else◌}
 use Rattle.words.specs.Lists.{all}
 use Rattle.words.specs.Over.{over, put}
 use Rattle.board.specs.Board as B

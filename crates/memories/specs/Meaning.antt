@@ -1,7 +1,7 @@
 -- What each change means for every byte of every memory: document 01, "Effects shared by both carriers", in its own numbers.
 use Rattle.std.specs.Prelude.{ℕ, ◌-◌, ◌<◌, ◌≡◌, Bool, true, false, not, List, length, get_or, T}
 use Rattle.std.specs.Int.Bits.{bit_and}
-use Rattle.words.specs.Choice.{if◌then◌else◌}
+use Rattle.std.specs.Prelude.{if◌then◌else◌}
 use Rattle.words.specs.Over.{newer, within}
 use Rattle.board.specs.Quantities.{is_sector, named, sector_at, first_indexed, first_numbered}
 use Rattle.board.specs.Usd.{protection_on}

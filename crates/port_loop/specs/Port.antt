@@ -1,6 +1,6 @@
 -- The board on a serial line: UART bytes come in, and their replies go out as they are, or in ST's dialect.
 use Rattle.std.specs.Prelude.{ℕ, ◌≡◌, Bool, ◌&&◌, List, [], ◌∷◌, ◌++◌, eqb, length, get_or}
-use Rattle.words.specs.Choice.{if◌then◌else◌}
+use Rattle.std.specs.Prelude.{if◌then◌else◌}
 use Rattle.words.specs.Over.{put}
 use Rattle.uart.specs.Conversation.{uart_room}
 use Rattle.uart.specs.Steps.{step_no}

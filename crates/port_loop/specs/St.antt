@@ -1,6 +1,6 @@
 -- ST's dialect of the protocol: what the host tools for ST's boards expect of two replies.
 use Rattle.std.specs.Prelude.{ℕ, ◌-◌, List, eqb, get_or, set}
-use Rattle.words.specs.Choice.{if◌then◌else◌}
+use Rattle.std.specs.Prelude.{if◌then◌else◌}
 use Rattle.command.specs.Commands.{code}
 use Rattle.command.specs.declared.Command.TheVariants.{GetCommands, GetDeviceId}
 

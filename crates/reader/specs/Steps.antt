@@ -1,6 +1,6 @@
 -- What a reader finds at its place: document 02, Wish 1, "Read a lent text line by line".
 use Rattle.std.specs.Prelude.{ℕ, ◌+◌, List, [], ltb, length, drop}
-use Rattle.words.specs.Choice.{if◌then◌else◌}
+use Rattle.std.specs.Prelude.{if◌then◌else◌}
 use Rattle.words.specs.Lists.{part}
 use Rattle.records.specs.Ends.{stop_in, next_in}
 use Rattle.records.specs.Records.{line_of, data_part}

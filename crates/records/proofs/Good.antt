@@ -8,7 +8,7 @@ use lib.Dec.{T, eqb, leb→le, eqb→eq}
 use lib.ListN.{length, get_or, drop}
 use lib.Seq.{drop-drop}
 use borrow.Author.Tests.{ne_eqb}
-use Rattle.words.specs.Choice.{if◌then◌else◌}
+use Rattle.std.specs.Prelude.{if◌then◌else◌}
 use Rattle.words.specs.Lists.{part}
 use Rattle.words.proofs.Slices.{length_part}
 use Rattle.words.proofs.Tests.{both_left, both_right}

@@ -1,6 +1,6 @@
 -- Hex digits in either case, and the bytes that pairs of them write. Assumes nothing.
 use Rattle.std.specs.Prelude.{ℕ, ◌+◌, ◌*◌, ◌-◌, Bool, true, false, ◌&&◌, ◌||◌, List, [], ◌∷◌, leb}
-use Rattle.words.specs.Choice.{if◌then◌else◌}
+use Rattle.std.specs.Prelude.{if◌then◌else◌}
 
 -- a hex digit: 0 to 9, A to F, a to f
 abbrev pub is_digit : ℕ → Bool

@@ -1,6 +1,6 @@
 -- The lines of a text: document 02, Wish 1, "Lines end in LF or CR LF, the last one optionally". Assumes nothing.
 use Rattle.std.specs.Prelude.{◌≡◌, ℕ, zero, suc, ◌+◌, ◌-◌, ◌≤◌, ◌<◌, ◌&&◌, List, [], ◌∷◌, eqb, ltb, length, get_or, drop}
-use Rattle.words.specs.Choice.{if◌then◌else◌}
+use Rattle.std.specs.Prelude.{if◌then◌else◌}
 use Rattle.words.specs.Lists.{part}
 
 abbrev pub line_feed : ℕ

@@ -1,7 +1,7 @@
 -- What one line of an S-record file is: document 02, Wish 1.
 use Rattle.std.specs.Prelude.{ℕ, ◌+◌, ◌*◌, ◌-◌, ◌%◌, Bool, false, ◌&&◌, ◌||◌, List, [], ◌∷◌, eqb, leb, length, get_or, take, drop}
 use Rattle.words.specs.Bytes.{complement, number}
-use Rattle.words.specs.Choice.{if◌then◌else◌}
+use Rattle.std.specs.Prelude.{if◌then◌else◌}
 use Rattle.words.specs.Lists.{part}
 use Rattle.records.specs.Digits.{are_pairs, bytes_in}
 use Rattle.records.specs.declared.Kind.{Kind}

@@ -12,7 +12,7 @@ use Rattle.words.specs.Lists.{cut, singly, join, part}
 use Rattle.words.specs.Over.{put}
 use Rattle.words.proofs.Over.{put_then, put_front}
 use Rattle.words.specs.Bytes.{four_bytes}
-use Rattle.words.specs.Choice.{if◌then◌else◌}
+use Rattle.std.specs.Prelude.{if◌then◌else◌}
 use Rattle.word_crc.specs.Words.{word_crc}
 use Rattle.memories.specs.Memories.{Memories, bytes_of}
 use Rattle.command.specs.Says.{reply_room, ack_message, told, version_bytes, device_bytes, says, fixed, Said}

@@ -1,6 +1,6 @@
 -- How a reply is cut into frames behind its first byte.
 use Rattle.std.specs.Prelude.{ℕ}
-use Rattle.words.specs.Choice.{if◌then◌else◌}
+use Rattle.std.specs.Prelude.{if◌then◌else◌}
 use Rattle.command.specs.Says.{fixed}
 use Rattle.command.specs.declared.Reply.{Reply}
 use Rattle.frames.specs.Frames.{classic}

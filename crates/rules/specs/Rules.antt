@@ -1,6 +1,6 @@
 -- The rules of the commands, said once for both carriers: document 01, "Effects shared by both carriers".
 use Rattle.std.specs.Prelude.{ℕ, not, ◌&&◌, ◌||◌, List, eqb, leb}
-use Rattle.words.specs.Choice.{if◌then◌else◌}
+use Rattle.std.specs.Prelude.{if◌then◌else◌}
 use Rattle.words.specs.Lists.{any, all}
 use Rattle.board.specs.Board as B
 use Rattle.board.specs.Quantities.{count_of, less_one, bytes_in, is_sector, every_sector, first_indexed, first_numbered}

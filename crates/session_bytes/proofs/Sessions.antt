@@ -7,7 +7,7 @@ use native.Mathlib.Omega.{arith}
 use lib.ListN.{length, take, set}
 use lib.Seq.{take_all}
 use borrow.Author.Tests.{eq-eqb}
-use Rattle.words.specs.Choice.{if◌then◌else◌}
+use Rattle.std.specs.Prelude.{if◌then◌else◌}
 use Rattle.words.specs.Bytes.{number, four_bytes}
 use Rattle.words.specs.Over.{put}
 use Rattle.words.proofs.Over.{put_one, put_then, put_all}

@@ -1,6 +1,6 @@
 -- What is promised of a session that is handed on after a call.
 use Rattle.std.specs.Prelude.{ℕ, ◌≡◌, List, eqb}
-use Rattle.words.specs.Choice.{if◌then◌else◌}
+use Rattle.std.specs.Prelude.{if◌then◌else◌}
 use Rattle.boot.specs.Causes.{cause_no}
 use Rattle.boot.specs.declared.Cause.TheVariants.{Accepted}
 use Rattle.boot.specs.declared.Taken.{Taken}

@@ -1,6 +1,6 @@
 -- A session as the bytes that it is lent in: its numbers one behind the other, each high byte first, and the staged bytes.
 use Rattle.std.specs.Prelude.{ℕ, ◌+◌, Bool, List, [], ◌∷◌, ◌++◌, eqb, length, get_or}
-use Rattle.words.specs.Choice.{if◌then◌else◌}
+use Rattle.std.specs.Prelude.{if◌then◌else◌}
 use Rattle.words.specs.Bytes.{number, four_bytes}
 use Rattle.words.specs.Lists.{part}
 use Rattle.numbers.specs.Numbers.{short_bytes, long_bytes, eight_bytes}

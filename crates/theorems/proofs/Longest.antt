@@ -11,7 +11,7 @@ use lib.Dec.{T, T_not, eqb, ltb, leb, ltb→lt, nltb→le, leb→le, eqb→eq, l
 use lib.ListN.{length, get_or, take}
 use lib.Seq.{take_all}
 use borrow.Author.Tests.{le-leb, lt-ltb, leb-true, ne_eqb}
-use Rattle.words.specs.Choice.{if◌then◌else◌}
+use Rattle.std.specs.Prelude.{if◌then◌else◌}
 use Rattle.words.specs.Over.{put}
 use Rattle.words.proofs.Tests.{both_left, both_right, holds_true}
 use Rattle.board.specs.Quantities.{count_of, less_one}

@@ -7,7 +7,7 @@ use Prim.Native.Nat.{ℕ, ◌-◌, ◌<◌}
 use native.Mathlib.Omega.{arith}
 use lib.Dec.{T, T_not, eqb, eqb→eq, lit<}
 use lib.ListN.{length, get_or, take}
-use Rattle.words.specs.Choice.{if◌then◌else◌}
+use Rattle.std.specs.Prelude.{if◌then◌else◌}
 use Rattle.words.specs.Bytes.{complement}
 use Rattle.words.specs.Over.{newer, put}
 use Rattle.words.proofs.Over.{length_over, over_within, over_before}

@@ -4,7 +4,7 @@ use mathlib.Core.Bool.{Bool, true, false, or-true}
 use mathlib.Core.List.{List}
 use Prim.Native.Nat.{ℕ}
 use lib.Dec.{T, ltb→lt}
-use Rattle.words.specs.Choice.{if◌then◌else◌}
+use Rattle.std.specs.Prelude.{if◌then◌else◌}
 use Rattle.words.specs.Lists.{all}
 use Rattle.words.proofs.Tests.{holds_true}
 use Rattle.board.specs.Quantities.{is_sector, first_indexed}

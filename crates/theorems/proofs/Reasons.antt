@@ -9,7 +9,7 @@ use native.Mathlib.Omega.{arith}
 use lib.Dec.{T, T_not, eqb, eqb→eq}
 use borrow.Author.Tests.{ltb-false}
 use lib.ListN.{length}
-use Rattle.words.specs.Choice.{if◌then◌else◌}
+use Rattle.std.specs.Prelude.{if◌then◌else◌}
 use Rattle.words.proofs.Tests.{both_left, both_right}
 use Rattle.command.specs.Decision.{if◌gives◌else◌, answer}
 use Rattle.command.specs.Progress.{staged_with, short}

@@ -6,7 +6,7 @@ use Prim.Native.Nat.{ℕ}
 use lib.Dec.{T, leb}
 use lib.ListN.{length, take, drop}
 use lib.Seq.{take_at}
-use Rattle.words.specs.Choice.{if◌then◌else◌}
+use Rattle.std.specs.Prelude.{if◌then◌else◌}
 use Rattle.words.proofs.Tests.{both_left, both_right, both_hold, chosen}
 use Rattle.board.specs.Usd.{protection_on}
 use Rattle.board.specs.View.{view_of}

@@ -7,7 +7,7 @@ use lib.Dec.{T, eqb, leb}
 use lib.ListN.{length, take, drop}
 use lib.Seq.{take-append_seam}
 use borrow.Author.Tests.{le-leb}
-use Rattle.words.specs.Choice.{if◌then◌else◌}
+use Rattle.std.specs.Prelude.{if◌then◌else◌}
 use Rattle.words.specs.Lists.{all, join}
 use Rattle.words.proofs.Tests.{both_right, holds_true}
 use Rattle.uart.specs.Conversation.{uart_room}

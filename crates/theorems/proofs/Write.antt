@@ -8,7 +8,7 @@ use native.Mathlib.Omega.{arith}
 use lib.Dec.{T, T_not, not_T, leb, ltb, leb→le, ltb→lt}
 use lib.ListN.{length, get_or, take, length-take}
 use borrow.Author.Tests.{le-leb, lt-ltb}
-use Rattle.words.specs.Choice.{if◌then◌else◌}
+use Rattle.std.specs.Prelude.{if◌then◌else◌}
 use Rattle.words.specs.Over.{within}
 use Rattle.words.proofs.Tests.{both_left, both_right, holds_true, fails_false}
 use Rattle.board.specs.Board as B

@@ -1,7 +1,7 @@
 -- The club's failures, each as a statement that a mentor can read.
 use Rattle.std.specs.Prelude.{ℕ, ◌<◌, ◌≡◌, Bool, true, false, not, ◌&&◌, ◌||◌, List, [], ◌∷◌, length, get_or, take, drop, T, eqb}
 use Rattle.words.specs.Lists.{any, all}
-use Rattle.words.specs.Choice.{if◌then◌else◌}
+use Rattle.std.specs.Prelude.{if◌then◌else◌}
 use Rattle.words.specs.Over.{within}
 use Rattle.board.specs.Quantities.{is_sector, named, first_indexed, first_numbered}
 use Rattle.board.specs.Regions.{place_of}

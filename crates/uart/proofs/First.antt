@@ -5,7 +5,7 @@ use mathlib.Core.Bool.{Bool, true, false, not, ◌&&◌}
 use mathlib.Core.List.{List, [], ◌∷◌}
 use lib.Dec.{T, eqb, leb, eqb→eq}
 use lib.ListN.{get_or, take}
-use Rattle.words.specs.Choice.{if◌then◌else◌}
+use Rattle.std.specs.Prelude.{if◌then◌else◌}
 use Rattle.words.specs.Bytes.{number}
 use Rattle.words.specs.Lists.{all}
 use Rattle.words.proofs.Tests.{both_left, both_right}

@@ -10,7 +10,7 @@ use lib.Dec.{leb, ltb}
 use lib.ListN.{length, get_or, set, take, drop, replicate, length-replicate, replicate-append-replicate}
 use lib.Seq.{take-suc, take-append_seam, drop-length, length-take-le}
 use borrow.Author.Tests.{leb-true, leb-false, ltb-true, ltb-false}
-use Rattle.words.specs.Choice.{if◌then◌else◌}
+use Rattle.std.specs.Prelude.{if◌then◌else◌}
 use Rattle.words.specs.Over.{over, newer, put, within}
 
 module _ (f : ℕ → ℕ → ℕ) where

@@ -6,7 +6,7 @@ use native.Mathlib.Omega.{arith}
 use native.Mathlib.Nat.{lt_of_not-le, not-le_of_lt}
 use lib.Dec.{T, leb}
 use borrow.Author.Tests.{le-leb, lt-leb, leb-true, leb-false}
-use Rattle.words.specs.Choice.{if◌then◌else◌}
+use Rattle.std.specs.Prelude.{if◌then◌else◌}
 
 -- both parts of a test that joins two hold
 pub both_left : (a b : Bool) → T (a && b) → T a
@@ -33,14 +33,14 @@ fails_false true t = absurd t
 fails_false false t = refl
 
 -- a choice whose test holds is its first value
-pub chosen {ℓ} : {A : Type ℓ} (a : Bool) (x y : A) → T a → (if a then x else y) ≡ x
+pub chosen : {A : Type 0} (a : Bool) (x y : A) → T a → (if a then x else y) ≡ x
 chosen true x y t = refl
 chosen false x y t = absurd t
 
 -- a choice between a value and itself is that value
-pub same-choice {ℓ} : {A : Type ℓ} (a : Bool) (x : A) → (if a then x else x) ≡ x
-same-choice true x = refl
-same-choice false x = refl
+pub same_choice : {A : Type 0} (a : Bool) (x : A) → (if a then x else x) ≡ x
+same_choice true x = refl
+same_choice false x = refl
 
 -- two orders that follow from each other are tested alike
 pub same_order : (a b c d : ℕ) → (a ≤ b → c ≤ d) → (c ≤ d → a ≤ b) → leb a b ≡ leb c d

@@ -1,4 +1,3 @@
-pub mod Choice
 pub mod Bytes
 pub mod Lists
 pub mod Over

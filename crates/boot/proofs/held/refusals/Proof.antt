@@ -1,6 +1,6 @@
 -- An accepted call gives 0, and a refused one is promised to leave what it was given.
 use mathlib.Core.Bool.{Bool, true, false}
-use Rattle.words.specs.Choice.{if◌then◌else◌}
+use Rattle.std.specs.Prelude.{if◌then◌else◌}
 use Rattle.boot.specs.Causes.{accepts}
 use Rattle.boot.specs.Calls.{cause_for, view_in, decide, perform, refused, call}
 use Rattle.boot.specs.Promise.{outcome, Leaves}

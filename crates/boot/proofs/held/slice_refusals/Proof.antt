@@ -2,7 +2,7 @@
 use mathlib.Core.Path.{◌≡◌, refl}
 use mathlib.Core.Bool.{Bool, true, false}
 use lib.ListN.{length}
-use Rattle.words.specs.Choice.{if◌then◌else◌}
+use Rattle.std.specs.Prelude.{if◌then◌else◌}
 use Rattle.boot.specs.Causes.{accepts}
 use Rattle.boot.specs.Slices.{as_one, taking, slice_cause, none_taken, call_bytes, slice_outcome, LeavesBytes}
 use Rattle.boot.specs.Refusals.{Unchanged, SliceRefusals}
