@@ -1,4 +1,4 @@
-//! Links the static library that `rt staticlib exports` writes.
+//! Links the static library that `tools/archive` makes.
 
 use std::env;
 use std::path::PathBuf;
@@ -18,7 +18,7 @@ fn main() {
     println!("cargo:rerun-if-changed={}", archive.display());
     if !archive.is_file() {
         eprintln!("{} is missing", archive.display());
-        eprintln!("run `rt staticlib {LIBRARY}` in the root of the repository");
+        eprintln!("run `tools/archive` in the root of the repository");
         exit(1);
     }
     println!("cargo:rustc-link-search=native={}", folder.display());
