@@ -1,4 +1,4 @@
-/* The calls of the classroom boot board, from the static library that `rt staticlib exports` writes.
+/* The calls of the classroom boot board, from the static library that `tools/archive` makes.
  *
  * What is lent belongs to the caller. Each pointer stands before so many bytes as the length behind it
  * says, none is NULL, and no two of them share a byte. Any lengths may be lent: the answer to wrong
