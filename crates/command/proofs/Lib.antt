@@ -2,5 +2,4 @@ pub mod Progress
 pub mod Holds
 pub mod First
 pub mod Says
-mod Arms
 mod BenchBoard

@@ -2,5 +2,4 @@ pub mod Tests
 pub mod Over
 pub mod Slices
 pub mod Bytes
-pub mod Keys
 pub mod Pieces
