@@ -51,15 +51,14 @@ returns-in-Data c =
 
 pub returns-in-Crc : goal.returns-in-Crc
 unfolding says
-returns-in-Crc c =
-    (
-      λ list t. rw c.in-Crc.is (record {
-        count = c.say_sum.ensures.0;
-        buffer = c.say_sum.ensures.1 ∙ put_front c.args.buffer.now _ (omega arith);
-      }),
-      omega (arith, c.say_sum.ensures.0),
-      λ t. absurd (subst (λ (z : Reply). T (fixed z)) c.in-Crc.is t),
-    )
+returns-in-Crc c = (
+  λ list t. rw c.in-Crc.is (record {
+    count = c.say_sum.ensures.0;
+    buffer = c.say_sum.ensures.1 ∙ put_front c.args.buffer.now _ (omega arith);
+  }),
+  omega (arith, c.say_sum.ensures.0),
+  λ t. absurd (subst (λ (z : Reply). T (fixed z)) c.in-Crc.is t),
+)
 
 pub returns-in-Fixed : goal.returns-in-Fixed
 unfolding says

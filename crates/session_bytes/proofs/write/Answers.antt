@@ -46,14 +46,13 @@ shape_of-lent c =
     )
 
 pub returns : goal.returns
-returns c =
-    (
-      rw (
-        c.copy.ensures,
-        c.put_short.ensures.0,
-        c.put_long-2.ensures.0,
-        c.put_long.ensures.0,
-      ) (all_stored c.args.lent.now c.args.session c.requires (omega (arith, c.copy-arg-3-1.given))),
-      read_back c.args.session c.put_long.ensures.1 c.put_long-2.ensures.1
-          c.put_short.ensures.1 (omega (arith, c.copy-arg-3-1.given)),
-    )
+returns c = (
+  rw (
+    c.copy.ensures,
+    c.put_short.ensures.0,
+    c.put_long-2.ensures.0,
+    c.put_long.ensures.0,
+  ) (all_stored c.args.lent.now c.args.session c.requires (omega (arith, c.copy-arg-3-1.given))),
+  read_back c.args.session c.put_long.ensures.1 c.put_long-2.ensures.1
+      c.put_short.ensures.1 (omega (arith, c.copy-arg-3-1.given)),
+)

@@ -11,12 +11,11 @@ use Rattle.boot.proofs.Good.{byte_can}
 use Rattle.boot.proofs.Session.decide_byte.Goals as goal
 
 pub heard-requires : goal.heard-requires
-heard-requires c =
-    (
-      sound_taken c.args.self c.requires.0,
-      uart_expects c.args.self c.requires.0 (rw (← c.on-here.ensures, c.if-here.true) tt),
-      omega arith,
-    )
+heard-requires c = (
+  sound_taken c.args.self c.requires.0,
+  uart_expects c.args.self c.requires.0 (rw (← c.on-here.ensures, c.if-here.true) tt),
+  omega arith,
+)
 
 pub returns-then-here : goal.returns-then-here
 unfolding decide_byte connected UC.heard if◌gives◌else◌

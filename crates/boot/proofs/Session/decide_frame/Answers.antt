@@ -13,13 +13,12 @@ use Rattle.boot.proofs.Good.{frame_can}
 use Rattle.boot.proofs.Session.decide_frame.Goals as goal
 
 pub heard-requires : goal.heard-requires
-heard-requires c =
-    (
-      sound_taken c.args.self c.requires.0,
-      can_expects c.args.self c.requires.0 (rw (← c.on-here.ensures, c.if-here.true) tt),
-      omega arith,
-      c.requires.2,
-    )
+heard-requires c = (
+  sound_taken c.args.self c.requires.0,
+  can_expects c.args.self c.requires.0 (rw (← c.on-here.ensures, c.if-here.true) tt),
+  omega arith,
+  c.requires.2,
+)
 
 pub returns-then-here : goal.returns-then-here
 unfolding decide_frame connected CC.heard if◌gives◌else◌
