@@ -12,4 +12,4 @@ until_spec =
     (tie.spec
     (λ c. search rules)
     (λ c. search rules)
-    (λ c. (omega arith, (omega arith, (λ e. absurd (subst T (sym e ∙ c.if1.false) tt))))))
+    (λ c. (omega arith, (omega arith, (λ e. absurd (subst T (sym e ∙ c.if-st.false) tt))))))
