@@ -1,7 +1,7 @@
 -- By whether ST's dialect is spoken.
 use borrow.Author.Rules.{rules}
 use native.Mathlib.Omega.{arith}
-use mathlib.Core.Path.{refl, sym, subst, ◌∙◌}
+use mathlib.Core.Path.{sym, subst, ◌∙◌}
 use lib.Dec.{T}
 use Rattle.port_loop.proofs.hearing.until.Statement.{statement}
 use Rattle.port_loop.proofs.hearing.until.Tie as tie

@@ -1,7 +1,6 @@
 -- By whether the dialect is spoken and the session waited.
 use borrow.Author.Rules.{rules}
-use mathlib.Core.Path.{refl, sym, ap, ◌∙◌}
-use mathlib.Core.Bool.{Bool, ◌&&◌}
+use mathlib.Core.Path.{refl}
 use Rattle.port_loop.specs.Port.{spoken}
 use Rattle.port_loop.proofs.st.speak.Statement.{statement}
 use Rattle.port_loop.proofs.st.speak.Tie as tie
