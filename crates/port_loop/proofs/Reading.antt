@@ -1,5 +1,5 @@
 -- What read after read has left is one fold, to which one read more is added behind.
-use mathlib.Core.Path.{◌≡◌, refl, sym, ap, ap₂, subst, ◌∙◌}
+use mathlib.Core.Path.{◌≡◌, sym, ap, ap₂, subst, ◌∙◌}
 use mathlib.Core.Bool.{Bool, true, ◌&&◌}
 use mathlib.Core.List.{List, [], ◌∷◌, ◌++◌, foldl-append}
 use Prim.Native.Nat.{ℕ, ◌≤◌}

@@ -1,17 +1,15 @@
 -- What is said to bytes front by front is what is said to all of them.
 use mathlib.Core.Path.{◌≡◌, refl, sym, ap, ap₂, ◌∙◌}
 use mathlib.Core.Bool.{Bool, true, false, ◌&&◌}
-use mathlib.Core.List.{List, [], ◌∷◌, ◌++◌, append-nil, append_assoc}
-use Prim.Native.Nat.{ℕ, zero, suc, ◌+◌, ◌<◌}
+use mathlib.Core.List.{List, [], ◌∷◌, ◌++◌, append_assoc}
+use Prim.Native.Nat.{ℕ, suc, ◌<◌}
 use lib.Dec.{leb}
 use lib.ListN.{length, take, drop, get_or}
 use Rattle.std.specs.Prelude.{if◌then◌else◌}
 use Rattle.uart.specs.Conversation.{uart_room}
 use Rattle.memories.specs.Memories.{proper}
-use Rattle.boot.specs.Session.{gathered}
 use Rattle.boot.specs.Calls.{State, Byte, Outcome, call, run}
 use Rattle.boot.specs.Gathering.{Gathers}
-use Rattle.boot.specs.Promise.{state_of}
 use Rattle.boot.specs.Slices.{after_bytes}
 use Rattle.boot.specs.declared.Session.{Session}
 use Rattle.boot.proofs.Silent.{only_gathered, front_passed}

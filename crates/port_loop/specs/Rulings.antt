@@ -1,5 +1,5 @@
 -- What ST's dialect changes, in bytes.
-use Rattle.std.specs.Prelude.{◌≡◌, List, ℕ}
+use Rattle.std.specs.Prelude.{◌≡◌}
 use Rattle.words.specs.Hex.{hex}
 use Rattle.port_loop.specs.St.{in_st}
 

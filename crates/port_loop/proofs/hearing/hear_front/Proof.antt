@@ -12,31 +12,31 @@ use Rattle.port_loop.proofs.hearing.hear_front.Statement.{statement}
 use Rattle.port_loop.proofs.hearing.hear_front.Tie as tie
 
 -- the start of the call, and what was lent and came back
-abbrev start : tie.After-take-front → tie.Start
+abbrev start : tie.After-take_front-front → tie.Start
 start c = c.before.before.before.before.before.before.before.before.before.before
 
-abbrev back : tie.After-take-front → List ℕ
-back c = c.take-front.new.1.1.1.1.1.0
+abbrev back : tie.After-take_front-front → List ℕ
+back c = c.take_front-front.new.buffer
 
 -- the front that was taken
-says : (c : tie.After-take-front) → let a = (start c).args in
-    let l = c.take-front.new in
+says : (c : tie.After-take_front-front) → let a = (start c).args in
+    let l = c.take_front-front.new in
     FrontSays a.st a.session a.bytes.now (memories a.flash.now a.sram.now a.usd.now) a.out.now
-    c.take-front.result.silent c.take-front.result.taken (memories l.1.1.0 l.1.1.1.0 l.1.1.1.1.0) (back c)
+    c.take_front-front.result.silent c.take_front-front.result.taken (memories l.flash l.sram l.usd) (back c)
 says c =
     let p = (start c).requires in
-    front_says _ _ _ _ _ _ _ _ _ p.1.1 p.1.0 c.take-front.auto.1.1.1.1.1.0 c.take-front.ensures
+    front_says _ _ _ _ _ _ _ _ _ p.1.1 p.1.0 c.take_front-front.auto.buffer c.take_front-front.ensures
 
 -- its reply lies in what came back
-fits : (c : tie.After-take-front) → c.take-front.result.taken.length ≤ length (back c)
-fits c = omega (arith, (says c).short, c.take-front.auto.1.1.1.1.1.0, (start c).requires.1.1)
+fits : (c : tie.After-take_front-front) → c.take_front-front.result.taken.length ≤ length (back c)
+fits c = omega (arith, (says c).short, c.take_front-front.auto.buffer, (start c).requires.1.1)
 
-slice_aggregate_speak : tie.Need-slice-aggregate-speak
+slice_aggregate_speak : tie.Need-slice_bounds-speak-end-2
 slice_aggregate_speak c =
     let front = c.before.before.before.before.before.before.before.before.before.before.before in
-    sym (length-take-le front.take-front.result.taken.length (back front) (fits front))
+    sym (length-take-le front.take_front-front.result.taken.length (back front) (fits front))
 
-add_t23 : tie.Need-overflow-add-t23
+add_t23 : tie.Need-overflow_add-result
 add_t23 c =
     let front = c.before.before.before.before.before.before.before.before.before.before.before.before.before.before.before in
     omega (arith, (says front).within, (start front).requires.0.1)

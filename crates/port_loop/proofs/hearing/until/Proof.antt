@@ -1,7 +1,7 @@
 -- By whether ST's dialect is spoken.
 use borrow.Author.Rules.{rules}
 use native.Mathlib.Omega.{arith}
-use mathlib.Core.Path.{refl, sym, subst, ◌∙◌}
+use mathlib.Core.Path.{sym, subst, ◌∙◌}
 use lib.Dec.{T}
 use Rattle.port_loop.proofs.hearing.until.Statement.{statement}
 use Rattle.port_loop.proofs.hearing.until.Tie as tie
@@ -12,4 +12,4 @@ until_spec =
     (tie.spec
     (λ c. search rules)
     (λ c. search rules)
-    (λ c. (omega arith, (omega arith, (λ e. absurd (subst T (sym e ∙ c.if1.false) tt))))))
+    (λ c. (omega arith, (omega arith, (λ e. absurd (subst T (sym e ∙ c.if-st.false) tt))))))

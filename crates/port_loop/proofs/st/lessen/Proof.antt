@@ -1,10 +1,9 @@
 -- A reply without a count stays.
 use borrow.Author.Rules.{rules}
 use native.Mathlib.Omega.{arith}
-use mathlib.Core.Path.{refl, sym, ap}
-use Prim.Native.Nat.{ℕ, ◌-◌}
+use mathlib.Core.Path.{sym, ap}
+use Prim.Native.Nat.{◌-◌}
 use lib.ListN.{set, get_or}
-use Rattle.port_loop.specs.St.{count_at}
 use Rattle.port_loop.proofs.Dialect.{set_beyond}
 use Rattle.port_loop.proofs.st.lessen.Statement.{statement}
 use Rattle.port_loop.proofs.st.lessen.Tie as tie

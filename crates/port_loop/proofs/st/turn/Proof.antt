@@ -9,15 +9,15 @@ use Rattle.port_loop.specs.St.{in_st}
 use Rattle.port_loop.proofs.st.turn.Statement.{statement}
 use Rattle.port_loop.proofs.st.turn.Tie as tie
 
-returns : tie.Need-returns
+returns : tie.Need-returns-then-command-eq-GET_COMMANDS
 unfolding in_st
 returns c =
     let after-lessen = c.before.before in
     let then1 = after-lessen.before.before in
     let start = then1.before.before in
-    rw (eq-eqb start.args.command 0 then1.if1.true) after-lessen.lessen.ensures
+    rw (eq-eqb start.args.command 0 then1.if-command-eq-GET_COMMANDS.true) after-lessen.lessen.ensures
 
-returns_2 : tie.Need-returns-2
+returns_2 : tie.Need-returns-then-command-eq-GET_DEVICE_ID
 unfolding in_st
 returns_2 c =
     let after-store2 = c.before.before in
@@ -25,15 +25,15 @@ returns_2 c =
     let then2 = after_store.before.before in
     let else1 = then2.before in
     let start = else1.before.before in
-    rw (ne_eqb start.args.command 0 else1.if1.false, eq-eqb start.args.command 2 then2.if2.true)
-    (after-store2.store2.ensures ∙ ap (λ (l : List ℕ). set l 3 18) after_store.store.ensures)
+    rw (ne_eqb start.args.command 0 else1.if-command-eq-GET_COMMANDS.false, eq-eqb start.args.command 2 then2.if-command-eq-GET_DEVICE_ID.true)
+    (after-store2.store-then-command-eq-GET_DEVICE_ID.ensures ∙ ap (λ (l : List ℕ). set l 3 18) after_store.store.ensures)
 
-returns_3 : tie.Need-returns-3
+returns_3 : tie.Need-returns-else-command-eq-GET_DEVICE_ID
 unfolding in_st
 returns_3 c =
     let else1 = c.before in
     let start = else1.before.before in
-    rw (ne_eqb start.args.command 0 else1.if1.false, ne_eqb start.args.command 2 c.if2.false) refl
+    rw (ne_eqb start.args.command 0 else1.if-command-eq-GET_COMMANDS.false, ne_eqb start.args.command 2 c.if-command-eq-GET_DEVICE_ID.false) refl
 
 pub turn_spec : {M : Type 1} → statement M
 unfolding in_st
