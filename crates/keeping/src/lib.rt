@@ -11,6 +11,7 @@ ghost use Rattle.std.specs.Prelude.{◌≡◌, true, false, eqb, length, take, �
 ghost use Rattle.std.specs.Io.KnownBytes.{Appends};
 ghost use Rattle.io.specs.Counts.{IsPrefixLen};
 ghost use Rattle.memories.specs.Lent.{held, were, are};
+ghost use Rattle.memories.specs.Memories.{memories};
 ghost use Rattle.keeping.specs.Kept.{memories_bytes, in_bytes, memories_in, named, Fits, Kept};
 
 use files::system::System;
@@ -65,8 +66,8 @@ fn make<R: System>(
     kept: &mut [u8],
 ) -> bool
     requires missing_value { missing ≡ true }
-    requires fits { Fits (held flash sram usd) kept.old }
-    ensures made { result ≡ true → kept.new ≡ in_bytes (were flash sram usd) }
+    requires fits { Fits (memories flash.now sram.now usd.now) kept.old }
+    ensures made { result ≡ true → kept.new ≡ in_bytes (memories flash.now sram.now usd.now) }
     ensures unkept { result ≡ false → kept.new ≡ kept.old }
 {
     let first = take_down(flash, sram, usd);
@@ -161,10 +162,10 @@ pub fn keep<R: System>(
     usd: &[u8],
     kept: &mut [u8],
 ) -> bool
-    requires { Fits (held flash sram usd) kept.old }
-    ensures kept { result ≡ true → Kept name.now (were flash sram usd) kept.new }
+    requires { Fits (memories flash.now sram.now usd.now) kept.old }
+    ensures kept { result ≡ true → Kept name.now (memories flash.now sram.now usd.now) kept.new }
     ensures unkept { result ≡ false → kept.new ≡ kept.old }
-    ensures same { Kept name.now (were flash sram usd) kept.old → result ≡ true }
+    ensures same { Kept name.now (memories flash.now sram.now usd.now) kept.old → result ≡ true }
 {
     if name.len() == 0 {
         return true;
@@ -187,7 +188,7 @@ fn answer<W: Write>(
     to: &mut W,
     text: &[u8],
 ) -> bool
-    requires { Kept name.now (held flash sram usd) kept.now }
+    requires { Kept name.now (memories flash.now sram.now usd.now) kept.now }
     ensures { result ≡ true → Appends (W.contents to.old) (W.contents to.new) text.now }
 {
     match to.write_all(text) {
@@ -208,9 +209,9 @@ pub fn tell<R: System, W: Write>(
     to: &mut W,
     text: &[u8],
 ) -> bool
-    requires { Fits (held flash sram usd) kept.old }
+    requires { Fits (memories flash.now sram.now usd.now) kept.old }
     ensures untold { told ≡ false → result ≡ false }
-    ensures kept { result ≡ true → Kept name.now (were flash sram usd) kept.new }
+    ensures kept { result ≡ true → Kept name.now (memories flash.now sram.now usd.now) kept.new }
     ensures written { result ≡ true → Appends (W.contents to.old) (W.contents to.new) text.now }
 {
     if !told {
