@@ -96,6 +96,16 @@ pub fn open<R: System>(rt: &R, name: &[u8]) -> Result<R::File, Error> {
     }
 }
 
+// Reads once, and tells how much came: nothing where the input has ended, or a read fails.
+pub fn read_once<F: Read>(from: &mut F, room: &mut [u8]) -> usize
+    ensures { IsPrefixLen result room.new }
+{
+    match from.read(room) {
+        Ok(came) => came,
+        Err(_) => 0,
+    }
+}
+
 // Reads until the room is full, the file ends or a read fails.
 fn read_all<F: Read>(file: &mut F, room: &mut [u8]) -> Result<usize, Error>
     ensures { ReadsAtMost result room.new }
