@@ -2,19 +2,21 @@
 // memories are kept in that file.
 #![tactic(auto)]
 
+use files::system::System;
 use keeping::arguments;
-use libc::{STDERR_FILENO, STDIN_FILENO, STDOUT_FILENO};
 
-fn main() {
+fn main(rt: HostRuntime) {
     let mut word = io::buffer();
-    let length = os::arg(1, &mut word);
+    let length = files::word(&rt, 1, &mut word);
     let why = desk_loop::asks_why(&word[..length]);
     let mut name = io::buffer();
-    let asked = arguments::ask(why, &mut name);
+    let asked = arguments::ask(&rt, why, &mut name);
     let n = asked.length;
     if asked.known {
-        desk_loop::run(why, &name[..n], STDIN_FILENO, STDOUT_FILENO);
+        let mut from = rt.stdin();
+        let mut to = rt.stdout();
+        desk_loop::run(&rt, why, &name[..n], &mut from, &mut to);
     } else {
-        io::write_all(STDERR_FILENO, b"desk: it takes [--why] [--keep FILE]\n");
+        rt.complain(b"desk: it takes [--why] [--keep FILE]\n");
     }
 }

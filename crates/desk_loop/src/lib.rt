@@ -1,4 +1,4 @@
-// Reads a host's lines and writes the answers, over file descriptors: what is read and written is not proved, what is done with it is.
+// Reads a host's lines and writes the answers, over a reader and a writer: what is read and written is not proved, what is done with it is.
 #![tactic(auto)]
 
 ghost use Rattle.std.specs.Prelude.{◌≡◌, true, false, ◌+◌, ◌^◌, ◌≤◌, ◌<◌, length};
@@ -12,8 +12,10 @@ ghost use Rattle.desk_loop.specs.Turns.{read_characters, out_characters, Ready, 
 use boot::Session;
 use desk_answers::CHARACTER_ROOM;
 use desk_hearing::{Desk, KEPT_CHARACTERS, finish, hear};
+use files::system::System;
 use keeping::turns::{MOST, left};
 use keeping::{begin, fresh, tell};
+use std::io::{Read, Write};
 
 // How many characters are read at most at once.
 const READ_CHARACTERS: usize = 4096;
@@ -44,11 +46,12 @@ fn room() -> [u8; OUT_CHARACTERS]
 }
 
 // Reads once, has what came heard, be it nothing, keeps the memories and then writes the answers.
-fn turn(
+fn turn<R: System, F: Read, W: Write>(
+    rt: &R,
     desk: Desk,
     name: &[u8],
-    from: i32,
-    to: i32,
+    from: &mut F,
+    to: &mut W,
     line: &mut [u8],
     flash: &mut [u8],
     sram: &mut [u8],
@@ -67,12 +70,11 @@ fn turn(
     ensures kept { result.told ≡ true → Kept name.now (are flash sram usd) kept.new }
 {
     let mut input = [0u8; READ_CHARACTERS];
-    let got = libc::read(from, &mut input);
-    let n = io::count(got, &input);
+    let n = files::read_once(from, &mut input);
     let mut here = hear(desk, &input[..n], line, flash, sram, usd, out);
     let end = here.end;
     here.end = 0;
-    let told = tell(true, name, flash, sram, usd, kept, to, &out[..end]);
+    let told = tell(rt, true, name, flash, sram, usd, kept, to, &out[..end]);
     Turned {
         desk: here,
         going: told & (0 < n),
@@ -81,11 +83,12 @@ fn turn(
 }
 
 // Answers a last line that has no LF, if all before it could be kept and answered, and hands back the desk that is left.
-fn get_up(
+fn get_up<R: System, W: Write>(
+    rt: &R,
     desk: Desk,
     told: bool,
     name: &[u8],
-    to: i32,
+    to: &mut W,
     line: &mut [u8],
     flash: &mut [u8],
     sram: &mut [u8],
@@ -107,17 +110,18 @@ fn get_up(
     Turned {
         desk: done,
         going: false,
-        told: tell(told, name, flash, sram, usd, kept, to, &out[..end]),
+        told: tell(rt, told, name, flash, sram, usd, kept, to, &out[..end]),
     }
 }
 
 // Reads until the input ends, answers a last line that has no LF, and hands back the desk that is left; where something could not be kept or written,
 // it ends without the answer.
-fn sit(
+fn sit<R: System, F: Read, W: Write>(
+    rt: &R,
     why: bool,
     name: &[u8],
-    from: i32,
-    to: i32,
+    from: &mut F,
+    to: &mut W,
     line: &mut [u8],
     flash: &mut [u8],
     sram: &mut [u8],
@@ -143,28 +147,28 @@ fn sit(
     let mut told = true;
     let mut turns = MOST;
     while 0 < turns {
-        let turned = turn(desk, name, from, to, line, flash, sram, usd, out, kept);
+        let turned = turn(rt, desk, name, from, to, line, flash, sram, usd, out, kept);
         desk = turned.desk;
         told = turned.told;
         turns = left(turns, turned.going);
     }
-    get_up(desk, told, name, to, line, flash, sram, usd, out, kept)
+    get_up(rt, desk, told, name, to, line, flash, sram, usd, out, kept)
 }
 
 // The program desk, asked for reasons or not: from the fresh board, or the memories that the file of a name holds, just powered, it reads lines until
 // they end and writes the answers.
-pub fn run(why: bool, name: &[u8], from: i32, to: i32) {
+pub fn run<R: System, F: Read, W: Write>(rt: &R, why: bool, name: &[u8], from: &mut F, to: &mut W) {
     let mut flash = fresh::flash();
     let mut sram = fresh::sram();
     let mut usd = fresh::usd();
     let mut kept = keeping::room::empty();
-    let begun = begin(name, &mut flash, &mut sram, &mut usd, &mut kept);
+    let begun = begin(rt, name, &mut flash, &mut sram, &mut usd, &mut kept);
     if !begun {
         return;
     }
     let mut line = [0u8; KEPT_CHARACTERS];
     let mut out = room();
     sit(
-        why, name, from, to, &mut line, &mut flash, &mut sram, &mut usd, &mut out, &mut kept,
+        rt, why, name, from, to, &mut line, &mut flash, &mut sram, &mut usd, &mut out, &mut kept,
     );
 }

@@ -1,10 +1,10 @@
 -- Texts that are added one behind the other.
 use mathlib.Core.Path.{sym, ◌∙◌}
 use mathlib.Core.List.{List, [], ◌++◌}
-use Prim.Native.Nat.{ℕ, ◌+◌}
+use Prim.Native.Nat.{ℕ}
 use native.Mathlib.Omega.{arith}
-use lib.ListN.{length, length-append}
-use Rattle.words.specs.Over.{put, newer}
+use lib.ListN.{length-append}
+use Rattle.words.specs.Over.{newer}
 use Rattle.words.proofs.Over.{over_none, put_then}
 use Rattle.desk_print.specs.Adds.{Adds}
 

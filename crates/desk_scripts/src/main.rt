@@ -2,34 +2,31 @@
 // asks for reasons, with them.
 #![tactic(auto)]
 
-use libc::STDOUT_FILENO;
+use files::system::System;
 
 // Runs desk on a file, or says why it cannot.
-fn run_script(why: bool, name: &[u8]) {
-    let file = os::open_read(name);
-    if file < 0 {
-        os::fail(name);
-        return;
+fn run_script<R: System>(rt: &R, why: bool, name: &[u8]) {
+    match files::open(rt, name) {
+        Ok(mut file) => desk_loop::run(rt, why, b"", &mut file, &mut std::io::writer(rt)),
+        Err(error) => files::fail(rt, name, &error),
     }
-    desk_loop::run(why, b"", file, STDOUT_FILENO);
-    libc::close(file);
 }
 
 // Runs desk on the file that an argument names, unless that asks for reasons, and tells whether reasons are asked for from then on.
-fn follow(i: usize, why: bool) -> bool {
+fn follow<R: System>(rt: &R, i: usize, why: bool) -> bool {
     let mut argument = io::buffer();
-    let length = os::arg(i, &mut argument);
+    let length = files::word(rt, i, &mut argument);
     let asks = desk_loop::asks_why(&argument[..length]);
     if asks {
         return true;
     }
-    run_script(why, &argument[..length]);
+    run_script(rt, why, &argument[..length]);
     why
 }
 
-fn main() {
+fn main(rt: HostRuntime) {
     let mut why = false;
-    for i in 1..os::arg_count() {
-        why = follow(i, why);
+    for i in 1..files::argument_count(&rt) {
+        why = follow(&rt, i, why);
     }
 }

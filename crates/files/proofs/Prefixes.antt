@@ -3,7 +3,7 @@ use mathlib.Core.Path.{◌≡◌, sym}
 use mathlib.Core.List.{List}
 use Prim.Native.Nat.{ℕ, ◌≤◌}
 use native.Mathlib.Omega.{arith}
-use lib.ListN.{length, take, length-take, replicate, length-replicate}
+use lib.ListN.{length, length-take, replicate, length-replicate}
 use Rattle.io.specs.Counts.{IsPrefixLen}
 
 -- so many bytes of a list that has them

@@ -1,47 +1,42 @@
 // The program image: makes an image of an S-record file. Its arguments are FILE, NEW, SHIFT and, where there is one, OLD.
 #![tactic(auto)]
 
+use files::system::System;
 use image_files::{Shift, arguments, making};
-use libc::STDERR_FILENO;
+use std::env::FillError;
 
 // Makes the image with a shift, from the old image that the last argument names, if it is there.
-fn make(file: &[u8], new: &[u8], shift: i16) {
+fn make<R: System>(rt: &R, file: &[u8], new: &[u8], shift: i16) {
     let mut old = io::buffer();
-    let length = os::arg(4, &mut old);
-    if os::errno() == libc::ENAMETOOLONG {
-        os::fail(b"OLD");
-        return;
+    match rt.arg(4, &mut old) {
+        Ok(length) => making::make(rt, file, new, shift, &old[..length]),
+        Err(FillError::NotPresent) => making::make(rt, file, new, shift, b""),
+        Err(FillError::TooLong) => files::fail(rt, b"OLD", &files::error_of(FillError::TooLong)),
     }
-    making::make(file, new, shift, &old[..length]);
 }
 
 // Makes the image with the shift that an argument writes.
-fn make_shifted(file: &[u8], new: &[u8], number: &[u8]) {
+fn make_shifted<R: System>(rt: &R, file: &[u8], new: &[u8], number: &[u8]) {
     let shift = arguments::shift(number);
     match shift {
-        Shift::By(by) => make(file, new, by),
-        Shift::NoShift => {
-            io::write_all(
-                STDERR_FILENO,
-                b"SHIFT: a whole number from -32768 to 32767\n",
-            );
-        }
+        Shift::By(by) => make(rt, file, new, by),
+        Shift::NoShift => rt.complain(b"SHIFT: a whole number from -32768 to 32767\n"),
     }
 }
 
-fn main() {
+fn main(rt: HostRuntime) {
     let mut file = io::buffer();
-    let named = files::argument(1, b"FILE", &mut file);
+    let named = files::argument(&rt, 1, b"FILE", &mut file);
     if named.failed {
         return;
     }
     let mut new = io::buffer();
-    let made = files::argument(2, b"NEW", &mut new);
+    let made = files::argument(&rt, 2, b"NEW", &mut new);
     if made.failed {
         return;
     }
     let mut number = io::buffer();
-    let shift = files::argument(3, b"SHIFT", &mut number);
+    let shift = files::argument(&rt, 3, b"SHIFT", &mut number);
     if shift.failed {
         return;
     }
@@ -49,6 +44,7 @@ fn main() {
     let made_length = made.length;
     let shift_length = shift.length;
     make_shifted(
+        &rt,
         &file[..named_length],
         &new[..made_length],
         &number[..shift_length],

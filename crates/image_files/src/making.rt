@@ -5,7 +5,7 @@ ghost use Rattle.board.specs.Board.{flash};
 
 use board::Board;
 use files::Got;
-use libc::{STDERR_FILENO, STDOUT_FILENO};
+use files::system::System;
 
 // How many characters an S-record file has at most.
 pub const TEXT: usize = 2097152;
@@ -35,13 +35,13 @@ pub fn said_room() -> [u8; files::NAME + image_says::ROOM]
 }
 
 // Says that an S-record file is too long.
-pub fn too_long(name: &[u8]) {
-    io::write_all(STDERR_FILENO, name);
-    io::write_all(STDERR_FILENO, b": longer than 2097152 characters\n");
+pub fn too_long<R: System>(rt: &R, name: &[u8]) {
+    rt.complain(name);
+    rt.complain(b": longer than 2097152 characters\n");
 }
 
 // The image that is begun with: erased flash, which the room holds, or the file of a name.
-fn begin(old: &[u8], room: &mut [u8]) -> Got
+fn begin<R: System>(rt: &R, old: &[u8], room: &mut [u8]) -> Got
     requires { flash.bytes ≤ length room.old }
     ensures { IsPrefixLen result.length room.new }
 {
@@ -51,11 +51,18 @@ fn begin(old: &[u8], room: &mut [u8]) -> Got
             failed: false,
         };
     }
-    files::read(old, room)
+    files::read(rt, old, room)
 }
 
 // Loads a text into an image and saves it, and says how that went: on standard output that the new file is there, on standard error why not.
-fn load_and_save(name: &[u8], text: &[u8], shift: i16, image: &mut [u8], new: &[u8]) {
+fn load_and_save<R: System>(
+    rt: &R,
+    name: &[u8],
+    text: &[u8],
+    shift: i16,
+    image: &mut [u8],
+    new: &[u8],
+) {
     if files::NAME < name.len() {
         return;
     }
@@ -63,36 +70,36 @@ fn load_and_save(name: &[u8], text: &[u8], shift: i16, image: &mut [u8], new: &[
     let told = image_says::load(name, text, shift, image, &mut out);
     let end = told.length;
     if !told.accepted {
-        io::write_all(STDERR_FILENO, &out[..end]);
+        rt.complain(&out[..end]);
         return;
     }
-    let saved = files::save(new, image);
+    let saved = files::save(rt, new, image);
     if saved {
-        io::write_all(STDOUT_FILENO, &out[..end]);
+        let _ = rt.write_all(&out[..end]);
     }
 }
 
 // Makes the image of an S-record file, from an old image where its name is not empty.
-pub fn make(file: &[u8], new: &[u8], shift: i16, old: &[u8]) {
+pub fn make<R: System>(rt: &R, file: &[u8], new: &[u8], shift: i16, old: &[u8]) {
     let mut image = erased();
-    let begun = begin(old, &mut image);
+    let begun = begin(rt, old, &mut image);
     if begun.failed {
         return;
     }
     let mut text = text_room();
-    let got = files::read(file, &mut text);
+    let got = files::read(rt, file, &mut text);
     if got.failed {
         return;
     }
     let n = got.length;
     if TEXT < n {
-        too_long(file);
+        too_long(rt, file);
         return;
     }
     let bytes = begun.length;
     if bytes == Board::FLASH_BYTES {
-        load_and_save(file, &text[..n], shift, &mut image[..bytes], new);
+        load_and_save(rt, file, &text[..n], shift, &mut image[..bytes], new);
     } else {
-        load_and_save(old, &text[..n], shift, &mut image[..bytes], new);
+        load_and_save(rt, old, &text[..n], shift, &mut image[..bytes], new);
     }
 }

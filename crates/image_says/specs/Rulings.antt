@@ -1,6 +1,5 @@
 -- What is said of a file, whole, of each cause.
 use Rattle.std.specs.Prelude.{ℕ, ◌≡◌, Bool, true, false, List, [], ◌∷◌, map}
-use Prim.Native.String.{String}
 use Rattle.words.specs.Texts.{characters}
 use Rattle.loading.specs.declared.Cause.{Cause}
 use Rattle.loading.specs.declared.Cause.TheVariants.{Accepted, WrongLength, BadLine, BadChecksum, OutsideFlash, Overlap, NoEnd}

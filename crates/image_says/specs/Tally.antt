@@ -1,5 +1,5 @@
 -- How much a file loads, told by the marks of the bytes that it touches.
-use Rattle.std.specs.Prelude.{ℕ, ◌+◌, ◌*◌, Bool, List, [], ◌∷◌, eqb}
+use Rattle.std.specs.Prelude.{ℕ, ◌+◌, Bool, List, [], ◌∷◌, eqb}
 use Rattle.words.specs.Choice.{if◌then◌else◌}
 use Rattle.words.specs.Lists.{any, count_from, part}
 use Rattle.board.specs.Board.{sectors}

@@ -4,8 +4,8 @@
 
 ghost use Rattle.std.specs.Prelude.{◌+◌, ◌^◌, ◌≤◌, ◌<◌, length};
 
+use files::system::System;
 use image_files::{Number, Shift, arguments, making};
-use libc::STDOUT_FILENO;
 
 // How many bytes a row has.
 const ROW: usize = 16;
@@ -23,7 +23,7 @@ fn same(a: &[u8], b: &[u8]) -> bool {
 }
 
 // Prints a row: the offset of its first byte, and its bytes.
-fn print_row(at: usize, row: &[u8]) {
+fn print_row<R: System>(rt: &R, at: usize, row: &[u8]) {
     if ROW < row.len() {
         return;
     }
@@ -34,33 +34,33 @@ fn print_row(at: usize, row: &[u8]) {
     out[3] = desk_print::digit((at % 16) as u8);
     out[4] = b':';
     let end = desk_print::bytes(row, row.len(), &mut out, 5);
-    io::write_all(STDOUT_FILENO, &out[..end]);
-    io::write_all(STDOUT_FILENO, b"\n");
+    let _ = rt.write_all(&out[..end]);
+    let _ = rt.write_all(b"\n");
 }
 
 // Prints the row at a place, if it has changed.
-fn print_changed(before: &[u8], after: &[u8], at: usize, end: usize)
+fn print_changed<R: System>(rt: &R, before: &[u8], after: &[u8], at: usize, end: usize)
     requires { (at ≤ end) × (end ≤ length before.now) × (end ≤ length after.now) }
 {
     if same(&before[at..end], &after[at..end]) {
         return;
     }
-    print_row(at, &after[at..end]);
+    print_row(rt, at, &after[at..end]);
 }
 
 // Prints the rows that have changed.
-fn print_rows(before: &[u8], after: &[u8]) {
+fn print_rows<R: System>(rt: &R, before: &[u8], after: &[u8]) {
     let n = words::least(before.len(), after.len());
     let mut at = 0;
     while at < n {
         let end = at + words::least(ROW, n - at);
-        print_changed(before, after, at, end);
+        print_changed(rt, before, after, at, end);
         at = end;
     }
 }
 
 // Loads a text into the first bytes of the image, and prints what is said and which rows have changed.
-fn load(name: &[u8], text: &[u8], shift: i16, bytes: usize, image: &mut [u8]) {
+fn load<R: System>(rt: &R, name: &[u8], text: &[u8], shift: i16, bytes: usize, image: &mut [u8]) {
     if files::NAME < name.len() {
         return;
     }
@@ -73,14 +73,14 @@ fn load(name: &[u8], text: &[u8], shift: i16, bytes: usize, image: &mut [u8]) {
     let mut out = making::said_room();
     let told = image_says::load(name, text, shift, &mut image[..bytes], &mut out);
     let end = told.length;
-    io::write_all(STDOUT_FILENO, &out[..end]);
-    print_rows(&before, image);
+    let _ = rt.write_all(&out[..end]);
+    print_rows(rt, &before, image);
 }
 
 // The shift that argument i writes; none that it writes is 0.
-fn shift_at(i: usize) -> i16 {
+fn shift_at<R: System>(rt: &R, i: usize) -> i16 {
     let mut word = io::buffer();
-    let got = files::argument(i, b"SHIFT", &mut word);
+    let got = files::argument(rt, i, b"SHIFT", &mut word);
     let n = got.length;
     let shift = arguments::shift(&word[..n]);
     match shift {
@@ -90,9 +90,9 @@ fn shift_at(i: usize) -> i16 {
 }
 
 // The number that argument i writes; none that it writes is 0.
-fn number_at(i: usize) -> usize {
+fn number_at<R: System>(rt: &R, i: usize) -> usize {
     let mut word = io::buffer();
-    let got = files::argument(i, b"BYTES", &mut word);
+    let got = files::argument(rt, i, b"BYTES", &mut word);
     let n = got.length;
     let number = arguments::number(&word[..n]);
     match number {
@@ -102,37 +102,38 @@ fn number_at(i: usize) -> usize {
 }
 
 // Loads the file of the three arguments from i on.
-fn load_three(i: usize, image: &mut [u8])
+fn load_three<R: System>(rt: &R, i: usize, image: &mut [u8])
     requires { i + 2 < 2 ^ 64 }
 {
     let mut name = io::buffer();
-    let named = files::argument(i, b"FILE", &mut name);
+    let named = files::argument(rt, i, b"FILE", &mut name);
     let k = named.length;
     let mut text = making::text_room();
-    let got = files::read(&name[..k], &mut text);
+    let got = files::read(rt, &name[..k], &mut text);
     if got.failed {
         return;
     }
     let n = got.length;
     if making::TEXT < n {
-        making::too_long(&name[..k]);
+        making::too_long(rt, &name[..k]);
         return;
     }
     load(
+        rt,
         &name[..k],
         &text[..n],
-        shift_at(i + 1),
-        number_at(i + 2),
+        shift_at(rt, i + 1),
+        number_at(rt, i + 2),
         image,
     );
 }
 
-fn main() {
+fn main(rt: HostRuntime) {
     let mut image = making::erased();
-    let threes = os::arg_count() / 3;
+    let threes = files::argument_count(&rt) / 3;
     let mut k = 0;
     while k < threes {
-        load_three(3 * k + 1, &mut image);
+        load_three(&rt, 3 * k + 1, &mut image);
         k += 1;
     }
 }

@@ -8,12 +8,15 @@ pub mod room;
 pub mod turns;
 
 ghost use Rattle.std.specs.Prelude.{◌≡◌, true, false, eqb, length, take, ◌+◌};
+ghost use Rattle.std.specs.Io.KnownBytes.{Appends};
 ghost use Rattle.io.specs.Counts.{IsPrefixLen};
 ghost use Rattle.memories.specs.Lent.{held, were, are};
+ghost use Rattle.memories.specs.Memories.{memories};
 ghost use Rattle.keeping.specs.Kept.{memories_bytes, in_bytes, memories_in, named, Fits, Kept};
 
-use libc::STDERR_FILENO;
+use files::system::System;
 use room::{MEMORIES_BYTES, bring_back, holds, take_down};
+use std::io::Write;
 
 // Room for the bytes of a file, and a byte more, which tells that it is longer.
 fn file_room() -> [u8; MEMORIES_BYTES + 1]
@@ -23,28 +26,28 @@ fn file_room() -> [u8; MEMORIES_BYTES + 1]
 }
 
 // Says that a file has another length than a board's memories.
-fn say_length(name: &[u8], length: usize) {
-    io::write_all(STDERR_FILENO, name);
-    io::write_all(STDERR_FILENO, b": it has ");
+fn say_length<R: System>(rt: &R, name: &[u8], length: usize) {
+    rt.complain(name);
+    rt.complain(b": it has ");
     if MEMORIES_BYTES < length {
-        io::write_all(STDERR_FILENO, b"more than ");
-        io::print_decimal(STDERR_FILENO, MEMORIES_BYTES as u64);
+        rt.complain(b"more than ");
+        files::say_number(rt, MEMORIES_BYTES as u64);
     } else {
-        io::print_decimal(STDERR_FILENO, length as u64);
+        files::say_number(rt, length as u64);
     }
-    io::write_all(STDERR_FILENO, b" bytes, and a board's memories are ");
-    io::print_decimal(STDERR_FILENO, MEMORIES_BYTES as u64);
-    io::write_all(STDERR_FILENO, b"\n");
+    rt.complain(b" bytes, and a board's memories are ");
+    files::say_number(rt, MEMORIES_BYTES as u64);
+    rt.complain(b"\n");
 }
 
 // Writes bytes to the file of a name, or says why it cannot: only once they are written they are what was kept last.
-fn put_down(name: &[u8], new: &[u8], kept: &mut [u8]) -> bool
+fn put_down<R: System>(rt: &R, name: &[u8], new: &[u8], kept: &mut [u8]) -> bool
     requires len { length new.now ≡ memories_bytes }
     requires kept_len { length kept.old ≡ memories_bytes }
     ensures written { result ≡ true → kept.new ≡ new.now }
     ensures unkept { result ≡ false → kept.new ≡ kept.old }
 {
-    let saved = files::save(name, new);
+    let saved = files::save(rt, name, new);
     if saved {
         words::copy(kept, 0, new, 0, MEMORIES_BYTES);
         return true;
@@ -53,14 +56,22 @@ fn put_down(name: &[u8], new: &[u8], kept: &mut [u8]) -> bool
 }
 
 // Makes the file of a name of the memories, only where it is missing.
-fn make(missing: bool, name: &[u8], flash: &[u8], sram: &[u8], usd: &[u8], kept: &mut [u8]) -> bool
+fn make<R: System>(
+    rt: &R,
+    missing: bool,
+    name: &[u8],
+    flash: &[u8],
+    sram: &[u8],
+    usd: &[u8],
+    kept: &mut [u8],
+) -> bool
     requires missing_value { missing ≡ true }
-    requires fits { Fits (held flash sram usd) kept.old }
-    ensures made { result ≡ true → kept.new ≡ in_bytes (were flash sram usd) }
+    requires fits { Fits (memories flash.now sram.now usd.now) kept.old }
+    ensures made { result ≡ true → kept.new ≡ in_bytes (memories flash.now sram.now usd.now) }
     ensures unkept { result ≡ false → kept.new ≡ kept.old }
 {
     let first = take_down(flash, sram, usd);
-    put_down(name, &first, kept)
+    put_down(rt, name, &first, kept)
 }
 
 // Brings the memories back that the first n bytes are, and takes these down, if memories are so many bytes: it tells whether they are.
@@ -89,14 +100,21 @@ fn restore(
 }
 
 // Brings the memories back that the file of a name holds, or says why it cannot.
-fn go_on(name: &[u8], flash: &mut [u8], sram: &mut [u8], usd: &mut [u8], kept: &mut [u8]) -> bool
+fn go_on<R: System>(
+    rt: &R,
+    name: &[u8],
+    flash: &mut [u8],
+    sram: &mut [u8],
+    usd: &mut [u8],
+    kept: &mut [u8],
+) -> bool
     requires { Fits (held flash sram usd) kept.old }
     ensures kept { result ≡ true → kept.new ≡ in_bytes (are flash sram usd) }
     ensures refused { result ≡ false → are flash sram usd ≡ were flash sram usd }
     ensures unkept { result ≡ false → kept.new ≡ kept.old }
 {
     let mut bytes = file_room();
-    let got = files::read(name, &mut bytes);
+    let got = files::read(rt, name, &mut bytes);
     if got.failed {
         return false;
     }
@@ -105,13 +123,14 @@ fn go_on(name: &[u8], flash: &mut [u8], sram: &mut [u8], usd: &mut [u8], kept: &
     if back {
         return true;
     }
-    say_length(name, n);
+    say_length(rt, name, n);
     false
 }
 
 // Begins with a board: without a name with the memories as they are lent; else with those that the file of that name holds, which is made of
 // the lent ones where it is missing. It tells whether the board may begin, and says why not.
-pub fn begin(
+pub fn begin<R: System>(
+    rt: &R,
     name: &[u8],
     flash: &mut [u8],
     sram: &mut [u8],
@@ -126,20 +145,27 @@ pub fn begin(
     if name.len() == 0 {
         return true; // with the lent memories
     }
-    let missing = files::is_missing(name);
+    let missing = files::is_missing(rt, name);
     if missing {
-        make(missing, name, flash, sram, usd, kept)
+        make(rt, missing, name, flash, sram, usd, kept)
     } else {
-        go_on(name, flash, sram, usd, kept)
+        go_on(rt, name, flash, sram, usd, kept)
     }
 }
 
 // Keeps the memories in the file of a name, where they are not what was kept last, or says why it cannot; without a name it does nothing.
-pub fn keep(name: &[u8], flash: &[u8], sram: &[u8], usd: &[u8], kept: &mut [u8]) -> bool
-    requires { Fits (held flash sram usd) kept.old }
-    ensures kept { result ≡ true → Kept name.now (were flash sram usd) kept.new }
+pub fn keep<R: System>(
+    rt: &R,
+    name: &[u8],
+    flash: &[u8],
+    sram: &[u8],
+    usd: &[u8],
+    kept: &mut [u8],
+) -> bool
+    requires { Fits (memories flash.now sram.now usd.now) kept.old }
+    ensures kept { result ≡ true → Kept name.now (memories flash.now sram.now usd.now) kept.new }
     ensures unkept { result ≡ false → kept.new ≡ kept.old }
-    ensures same { Kept name.now (were flash sram usd) kept.old → result ≡ true }
+    ensures same { Kept name.now (memories flash.now sram.now usd.now) kept.old → result ≡ true }
 {
     if name.len() == 0 {
         return true;
@@ -149,43 +175,49 @@ pub fn keep(name: &[u8], flash: &[u8], sram: &[u8], usd: &[u8], kept: &mut [u8])
         return true;
     }
     let new = take_down(flash, sram, usd);
-    put_down(name, &new, kept)
+    put_down(rt, name, &new, kept)
 }
 
 // Writes what is to be answered, once the memories are kept: only for that they are lent.
-fn answer(
+fn answer<W: Write>(
     name: &[u8],
     flash: &[u8],
     sram: &[u8],
     usd: &[u8],
     kept: &[u8],
-    to: i32,
+    to: &mut W,
     text: &[u8],
 ) -> bool
-    requires { Kept name.now (held flash sram usd) kept.now }
+    requires { Kept name.now (memories flash.now sram.now usd.now) kept.now }
+    ensures { result ≡ true → Appends (W.contents to.old) (W.contents to.new) text.now }
 {
-    io::write_all(to, text)
+    match to.write_all(text) {
+        Ok(()) => true,
+        Err(_) => false,
+    }
 }
 
 // Keeps the memories and then writes what is to be answered, if all before it could be.
-pub fn tell(
+pub fn tell<R: System, W: Write>(
+    rt: &R,
     told: bool,
     name: &[u8],
     flash: &[u8],
     sram: &[u8],
     usd: &[u8],
     kept: &mut [u8],
-    to: i32,
+    to: &mut W,
     text: &[u8],
 ) -> bool
-    requires { Fits (held flash sram usd) kept.old }
+    requires { Fits (memories flash.now sram.now usd.now) kept.old }
     ensures untold { told ≡ false → result ≡ false }
-    ensures kept { result ≡ true → Kept name.now (were flash sram usd) kept.new }
+    ensures kept { result ≡ true → Kept name.now (memories flash.now sram.now usd.now) kept.new }
+    ensures written { result ≡ true → Appends (W.contents to.old) (W.contents to.new) text.now }
 {
     if !told {
         return false;
     }
-    let held = keep(name, flash, sram, usd, kept);
+    let held = keep(rt, name, flash, sram, usd, kept);
     if held {
         answer(name, flash, sram, usd, kept, to, text)
     } else {

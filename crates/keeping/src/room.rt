@@ -1,7 +1,7 @@
 // A board's memories, taken down in a room one behind the other and brought back from it.
 ghost use Rattle.std.specs.Prelude.{◌≡◌, true, false, T, length};
 ghost use Rattle.memories.specs.Lent.{held, were, are};
-ghost use Rattle.memories.specs.Memories.{proper};
+ghost use Rattle.memories.specs.Memories.{memories, proper};
 ghost use Rattle.keeping.specs.Kept.{memories_bytes, in_bytes, memories_in, Fits};
 
 use board::Board;
@@ -22,9 +22,9 @@ pub fn empty() -> [u8; MEMORIES_BYTES]
 
 // Whether a room holds the memories.
 pub fn holds(flash: &[u8], sram: &[u8], usd: &[u8], room: &[u8]) -> bool
-    requires { Fits (held flash sram usd) room.now }
-    ensures held { result ≡ true → room.now ≡ in_bytes (were flash sram usd) }
-    ensures only { room.now ≡ in_bytes (were flash sram usd) → result ≡ true }
+    requires { Fits (memories flash.now sram.now usd.now) room.now }
+    ensures held { result ≡ true → room.now ≡ in_bytes (memories flash.now sram.now usd.now) }
+    ensures only { room.now ≡ in_bytes (memories flash.now sram.now usd.now) → result ≡ true }
 {
     let first = check::same(flash, &room[..SRAM_AT]);
     let second = check::same(sram, &room[SRAM_AT..USD_AT]);
@@ -34,8 +34,8 @@ pub fn holds(flash: &[u8], sram: &[u8], usd: &[u8], room: &[u8]) -> bool
 
 // The bytes of the memories.
 pub fn take_down(flash: &[u8], sram: &[u8], usd: &[u8]) -> [u8; MEMORIES_BYTES]
-    requires { T (proper (held flash sram usd)) }
-    ensures { result ≡ in_bytes (were flash sram usd) }
+    requires { T (proper (memories flash.now sram.now usd.now)) }
+    ensures { result ≡ in_bytes (memories flash.now sram.now usd.now) }
 {
     let mut room = empty();
     words::copy(&mut room, 0, flash, 0, Board::FLASH_BYTES);

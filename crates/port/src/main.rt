@@ -2,19 +2,21 @@
 // the board's memories are kept in that file.
 #![tactic(auto)]
 
+use files::system::System;
 use keeping::arguments;
-use libc::{STDERR_FILENO, STDIN_FILENO, STDOUT_FILENO};
 
-fn main() {
+fn main(rt: HostRuntime) {
     let mut word = io::buffer();
-    let length = os::arg(1, &mut word);
+    let length = files::word(&rt, 1, &mut word);
     let st = port_loop::asks_st(&word[..length]);
     let mut name = io::buffer();
-    let asked = arguments::ask(st, &mut name);
+    let asked = arguments::ask(&rt, st, &mut name);
     let n = asked.length;
     if asked.known {
-        port_loop::run(st, &name[..n], STDIN_FILENO, STDOUT_FILENO);
+        let mut from = rt.stdin();
+        let mut to = rt.stdout();
+        port_loop::run(&rt, st, &name[..n], &mut from, &mut to);
     } else {
-        io::write_all(STDERR_FILENO, b"port: it takes [--st] [--keep FILE]\n");
+        rt.complain(b"port: it takes [--st] [--keep FILE]\n");
     }
 }

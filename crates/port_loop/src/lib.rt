@@ -1,4 +1,4 @@
-// Reads UART bytes and writes the replies, over file descriptors: what is read and written is not proved, what is done with it is.
+// Reads UART bytes and writes the replies, over a reader and a writer: what is read and written is not proved, what is done with it is.
 #![tactic(auto)]
 
 pub mod hearing;
@@ -13,9 +13,11 @@ ghost use Rattle.boot.specs.Promise.{state_of};
 ghost use Rattle.port_loop.specs.Turns.{out_bytes, sitting, Turns, LeftBy};
 
 use boot::Session;
+use files::system::System;
 use hearing::hear;
 use keeping::turns::{MOST, left};
 use keeping::{begin, fresh, tell};
+use std::io::{Read, Write};
 
 // How many bytes are read at most at once.
 const READ_BYTES: usize = 4096;
@@ -46,12 +48,13 @@ fn room() -> [u8; OUT_BYTES]
 }
 
 // Reads once, has what came heard, be it nothing, keeps the memories and then writes what is said.
-fn turn(
+fn turn<R: System, F: Read, W: Write>(
+    rt: &R,
     session: Session,
     st: bool,
     name: &[u8],
-    from: i32,
-    to: i32,
+    from: &mut F,
+    to: &mut W,
     flash: &mut [u8],
     sram: &mut [u8],
     usd: &mut [u8],
@@ -66,12 +69,11 @@ fn turn(
     ensures kept { result.told ≡ true → Kept name.now (are flash sram usd) kept.new }
 {
     let mut input = [0u8; READ_BYTES];
-    let got = libc::read(from, &mut input);
-    let n = io::count(got, &input);
+    let n = files::read_once(from, &mut input);
     let heard = hear(session, st, &input[..n], flash, sram, usd, out);
     let next = heard.session;
     let end = heard.length;
-    let told = tell(true, name, flash, sram, usd, kept, to, &out[..end]);
+    let told = tell(rt, true, name, flash, sram, usd, kept, to, &out[..end]);
     Turned {
         session: next,
         going: told & (0 < n),
@@ -80,11 +82,12 @@ fn turn(
 }
 
 // Reads until the input ends, or something could not be kept or written, and hands back the session that is left, and whether all could be.
-fn sit(
+fn sit<R: System, F: Read, W: Write>(
+    rt: &R,
     st: bool,
     name: &[u8],
-    from: i32,
-    to: i32,
+    from: &mut F,
+    to: &mut W,
     flash: &mut [u8],
     sram: &mut [u8],
     usd: &mut [u8],
@@ -103,7 +106,7 @@ fn sit(
     let mut told = true;
     let mut turns = MOST;
     while 0 < turns {
-        let turned = turn(session, st, name, from, to, flash, sram, usd, out, kept);
+        let turned = turn(rt, session, st, name, from, to, flash, sram, usd, out, kept);
         let next = turned.session;
         session = next;
         told = turned.told;
@@ -118,17 +121,17 @@ fn sit(
 
 // The program port, in ST's dialect or not: from the fresh board, or the memories that the file of a name holds, just powered, it reads bytes until they
 // end and writes the replies.
-pub fn run(st: bool, name: &[u8], from: i32, to: i32) {
+pub fn run<R: System, F: Read, W: Write>(rt: &R, st: bool, name: &[u8], from: &mut F, to: &mut W) {
     let mut flash = fresh::flash();
     let mut sram = fresh::sram();
     let mut usd = fresh::usd();
     let mut kept = keeping::room::empty();
-    let begun = begin(name, &mut flash, &mut sram, &mut usd, &mut kept);
+    let begun = begin(rt, name, &mut flash, &mut sram, &mut usd, &mut kept);
     if !begun {
         return;
     }
     let mut out = room();
     sit(
-        st, name, from, to, &mut flash, &mut sram, &mut usd, &mut out, &mut kept,
+        rt, st, name, from, to, &mut flash, &mut sram, &mut usd, &mut out, &mut kept,
     );
 }

@@ -2,34 +2,31 @@
 // asks for ST's dialect, in it.
 #![tactic(auto)]
 
-use libc::STDOUT_FILENO;
+use files::system::System;
 
 // Runs port on a file, or says why it cannot.
-fn run_file(st: bool, name: &[u8]) {
-    let file = os::open_read(name);
-    if file < 0 {
-        os::fail(name);
-        return;
+fn run_file<R: System>(rt: &R, st: bool, name: &[u8]) {
+    match files::open(rt, name) {
+        Ok(mut file) => port_loop::run(rt, st, b"", &mut file, &mut std::io::writer(rt)),
+        Err(error) => files::fail(rt, name, &error),
     }
-    port_loop::run(st, b"", file, STDOUT_FILENO);
-    libc::close(file);
 }
 
 // Runs port on the file that an argument names, unless that asks for ST's dialect, and tells whether it is spoken from then on.
-fn follow(i: usize, st: bool) -> bool {
+fn follow<R: System>(rt: &R, i: usize, st: bool) -> bool {
     let mut argument = io::buffer();
-    let length = os::arg(i, &mut argument);
+    let length = files::word(rt, i, &mut argument);
     let asks = port_loop::asks_st(&argument[..length]);
     if asks {
         return true;
     }
-    run_file(st, &argument[..length]);
+    run_file(rt, st, &argument[..length]);
     st
 }
 
-fn main() {
+fn main(rt: HostRuntime) {
     let mut st = false;
-    for i in 1..os::arg_count() {
-        st = follow(i, st);
+    for i in 1..files::argument_count(&rt) {
+        st = follow(&rt, i, st);
     }
 }

@@ -7,8 +7,8 @@ ghost use Rattle.vector_lines.specs.Sizes.{call_bytes, session_bytes, lent_bytes
 use crate::{FIELDS, wide};
 use boot::{Session, Taken};
 use desk_written::first::LINE_FEED;
-use libc::STDOUT_FILENO;
 use numbers::{LONG, SHORT};
+use std::io::Write;
 
 // The modulus of a digest's two sums, and how many bits each takes.
 const MODULUS: u64 = 65521;
@@ -127,18 +127,25 @@ fn line(
 }
 
 // Writes the characters of a room up to an end, and tells whether it could.
-fn write(out: &[u8; ROOM], end: usize) -> bool
+fn write<W: Write>(to: &mut W, out: &[u8; ROOM], end: usize) -> bool
     requires { end ≤ line_room }
 {
     let text = &out[..];
-    io::write_all(STDOUT_FILENO, &text[..end])
+    to.write_all(&text[..end]).is_ok()
 }
 
 // Writes what a call left, and tells whether it could.
-pub fn report(taken: Taken, flash: &[u8], sram: &[u8], usd: &[u8], buffer: &[u8]) -> bool
+pub fn report<W: Write>(
+    to: &mut W,
+    taken: Taken,
+    flash: &[u8],
+    sram: &[u8],
+    usd: &[u8],
+    buffer: &[u8],
+) -> bool
     requires { length buffer.now ≤ reply_room }
 {
     let mut out = io::large_buffer();
     let end = line(taken, flash, sram, usd, buffer, &mut out);
-    write(&out, end)
+    write(to, &out, end)
 }

@@ -6,7 +6,7 @@ ghost use Rattle.vector_lines.specs.Sizes.{reply_room};
 
 use boot::Taken;
 use desk_lines::line;
-use libc::STDIN_FILENO;
+use std::io::{Read, Write};
 use vector_lines::vector::BYTES;
 use vector_lines::{FIELDS, report, vector, wide};
 use words::FIELD;
@@ -45,7 +45,8 @@ fn call(
 }
 
 // Makes the call of a vector on what is lent, prints what it left, and tells whether it could.
-fn answer_on(
+fn answer_on<W: Write>(
+    to: &mut W,
     vector: &[u8; BYTES],
     letter: u8,
     flash: &mut [u8],
@@ -57,11 +58,11 @@ fn answer_on(
 {
     vector::fill_lent(vector, flash, sram, usd, buffer);
     let taken = call(vector, letter, flash, sram, usd, buffer);
-    report::report(taken, flash, sram, usd, buffer)
+    report::report(to, taken, flash, sram, usd, buffer)
 }
 
 // Lends as much as a vector says, from rooms that are larger, and answers it.
-fn answer(vector: &[u8; BYTES], letter: u8) -> bool {
+fn answer<W: Write>(to: &mut W, vector: &[u8; BYTES], letter: u8) -> bool {
     let mut flash = io::large_buffer();
     let mut sram = io::large_buffer();
     let mut usd = io::buffer();
@@ -71,6 +72,7 @@ fn answer(vector: &[u8; BYTES], letter: u8) -> bool {
     let u = vector::extent(vector, vector::USD, &usd);
     let b = vector::extent(vector, vector::BUFFER, &buffer);
     answer_on(
+        to,
         vector,
         letter,
         &mut flash[..f],
@@ -81,10 +83,10 @@ fn answer(vector: &[u8; BYTES], letter: u8) -> bool {
 }
 
 // Reads a vector and answers it, and tells whether there was one.
-fn turn() -> bool {
+fn turn<F: Read, W: Write>(from: &mut F, to: &mut W) -> bool {
     let mut text = [0u8; LINE];
-    let n = io::read_full(STDIN_FILENO, &mut text);
-    if n < LINE {
+    let whole = from.read_exact(&mut text).is_ok();
+    if !whole {
         return false;
     }
     let good = line::are_fields(&text[FIELDS..FIELDS_END]);
@@ -93,12 +95,14 @@ fn turn() -> bool {
     }
     let mut vector = [0u8; BYTES];
     desk_written::bytes(&text[FIELDS..FIELDS_END], &mut vector);
-    answer(&vector, text[0])
+    answer(to, &vector, text[0])
 }
 
-fn main() {
+fn main(rt: HostRuntime) {
+    let mut from = rt.stdin();
+    let mut to = rt.stdout();
     for _ in 0..TURNS {
-        let going = turn();
+        let going = turn(&mut from, &mut to);
         if !going {
             return;
         }

@@ -9,7 +9,7 @@ returns c =
     let after-copy = c.before.before in
     let after-digit2 = after-copy.before.before.before in
     let after-digit = after-digit2.before in
-    after-copy.copy.ensures ∙ rw (after-digit.digit.ensures, after-digit2.digit2.ensures) refl
+    after-copy.copy.ensures ∙ rw (after-digit.digit.ensures, after-digit2.digit-2.ensures) refl
 
 pub byte_spec : {M : Type 1} → statement M
 byte_spec =

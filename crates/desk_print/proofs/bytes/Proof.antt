@@ -10,34 +10,34 @@ use Rattle.desk_print.proofs.Printing.{spelled_more}
 use Rattle.desk_print.proofs.bytes.Statement.{statement}
 use Rattle.desk_print.proofs.bytes.Tie as tie
 
-abbrev invariant_loop : tie.invariant-loop
+abbrev invariant_loop : tie.invariant-loop-i
 invariant_loop reply n out₀ at end₀ i₀ out end i =
     (i ≤ n)
     × (end ≡ at + i * 3)
     × (out ≡ put out₀ at (spelled (take i reply)))
     × (length out ≡ length out₀)
 
-abbrev decreases_loop : tie.decreases-loop
+abbrev decreases_loop : tie.decreases-loop-i
 decreases_loop reply n out₀ at end₀ i₀ out end i = n - i
 
-loop_again : tie.Need-loop-preserved invariant_loop decreases_loop
+loop_again : tie.Need-loop-i-preserved invariant_loop decreases_loop
 loop_again c =
     let after-byte = c.before.before in
     let at-loop = after-byte.before.before.before.before in
     let start = at-loop.before.before.before in (
       omega arith,
       omega arith,
-      after-byte.byte.ensures ∙ rw at-loop.loop.invariant.2 (spelled_more start.args.out.now start.args.at
-          start.args.reply.now at-loop.loop.i at-loop.loop.end (omega arith) at-loop.loop.invariant.1),
-      ap length after-byte.byte.ensures ∙ simp (length_over newer) at-loop.loop.invariant.3,
+      after-byte.byte.ensures ∙ rw at-loop.loop-i.invariant.2 (spelled_more start.args.out.now start.args.at
+          start.args.reply.now at-loop.loop-i.i at-loop.loop-i.end (omega arith) at-loop.loop-i.invariant.1),
+      ap length after-byte.byte.ensures ∙ simp (length_over newer) at-loop.loop-i.invariant.3,
     )
 
 returns : tie.Need-returns invariant_loop decreases_loop
 returns c =
     let at-loop = c.before in
     let start = at-loop.before.before.before in
-    let e : at-loop.loop.i ≡ start.args.n = omega arith in
-    (rw e at at-loop.loop.invariant.1, rw e at at-loop.loop.invariant.2)
+    let e : at-loop.loop-i.i ≡ start.args.n = omega arith in
+    (rw e at at-loop.loop-i.invariant.1, rw e at at-loop.loop-i.invariant.2)
 
 pub bytes_spec : {M : Type 1} → statement M
 bytes_spec =
@@ -52,5 +52,5 @@ bytes_spec =
     (λ c. omega arith)
     (λ c. omega arith)
     loop_again
-    (λ c. c.before.loop.invariant.3)
+    (λ c. c.before.loop-i.invariant.3)
     returns)

@@ -13,5 +13,5 @@ digit_spec =
     (λ c. search rules)
     (λ c. search rules)
     (λ c. search rules)
-    (λ c. rw (lt-ltb c.before.args.value 10 c.if1.true) refl)
-    (λ c. rw (le-ltb c.before.args.value 10 c.if1.false) (omega arith)))
+    (λ c. rw (lt-ltb c.before.args.value 10 c.if-value-lt10.true) refl)
+    (λ c. rw (le-ltb c.before.args.value 10 c.if-value-lt10.false) (omega arith)))

@@ -19,16 +19,16 @@ returns c =
     let after-shared-slice-known2 = after-digit.before.before.before in
     let start = after-shared-slice-known2.before.before.before in
     let f = start.args.frame.now in
-    let b : get_or f 1 0 < 256 = omega (arith, after-shared-slice-known2.shared-slice-known2.given 1) in
-    let n = frame_length f start.requires.0 b after-least.least.result after-least.least.ensures in (
+    let b : get_or f 1 0 < 256 = omega (arith, after-shared-slice-known2.shared_slice_known-2-1.given 1) in
+    let n = frame_length f start.requires.0 b after-least.least-end.result after-least.least-end.ensures in (
       omega (arith, n.0, after-unspaced.unspaced.ensures.0),
       omega (arith, n.0, n.1, after-unspaced.unspaced.ensures.0),
       after-unspaced.unspaced.ensures.1 ∙ rw (
         after-copy.copy.ensures,
         after-digit.digit.ensures,
-        after-digit2.digit2.ensures,
-        after-digit3.digit3.ensures,
-      ) (frame_spelled f start.requires.0 b after-least.least.result after-least.least.ensures
+        after-digit2.digit-2.ensures,
+        after-digit3.digit-3.ensures,
+      ) (frame_spelled f start.requires.0 b after-least.least-end.result after-least.least-end.ensures
           start.args.out.now start.args.at),
     )
 
@@ -40,11 +40,11 @@ frame_spec =
     (λ c. search rules)
     (λ c. search rules)
     (λ c κs. search rules)
-    (λ c κs. omega (arith, c.before.before.before.shared-slice-known2.given 1))
+    (λ c κs. omega (arith, c.before.before.before.shared_slice_known-2-1.given 1))
     (λ c κs. search rules)
     (λ c. search rules)
     (λ c κs. search rules)
-    (λ c. omega (arith, c.before.before.before.before.before.before.before.before.before.shared-slice-known3.given 2))
+    (λ c. omega (arith, c.before.before.before.before.before.before.before.before.before.shared_slice_known-3-1.given 2))
     (λ c κs. search rules)
     (λ c. search rules)
     (λ c. search rules)

@@ -13,7 +13,7 @@ use Rattle.desk_print.proofs.Printing.{Turn, turn}
 use Rattle.desk_print.proofs.frames.Statement.{statement}
 use Rattle.desk_print.proofs.frames.Tie as tie
 
-abbrev invariant_loop : tie.invariant-loop
+abbrev invariant_loop : tie.invariant-loop-i
 invariant_loop reply out₀ at n end₀ i₀ out end i =
     (i ≤ n)
     × (i % frame_bytes classic ≡ 0)
@@ -22,35 +22,35 @@ invariant_loop reply out₀ at n end₀ i₀ out end i =
     × (put out end (spelled_frames (drop i reply)) ≡ put out₀ at (spelled_frames reply))
     × (length out ≡ length out₀)
 
-abbrev decreases_loop : tie.decreases-loop
+abbrev decreases_loop : tie.decreases-loop-i
 decreases_loop reply out₀ at n end₀ i₀ out end i = n - i
 
 -- the reply, and what a turn prints of it
-abbrev reply : tie.In-loop invariant_loop decreases_loop → List ℕ
+abbrev reply : tie.In-loop-i invariant_loop decreases_loop → List ℕ
 reply c = c.before.before.before.before.args.reply.now
 
-turned : (c : tie.In-loop invariant_loop decreases_loop) → Turn (reply c) c.before.loop.i
+turned : (c : tie.In-loop-i invariant_loop decreases_loop) → Turn (reply c) c.before.loop-i.i
 turned c =
-    turn (reply c) c.before.loop.i (omega arith) c.before.before.before.before.requires.0 c.before.loop.invariant.1
+    turn (reply c) c.before.loop-i.i (omega arith) c.before.before.before.before.requires.0 c.before.loop-i.invariant.1
 
-add_next : tie.Need-overflow-add-next invariant_loop decreases_loop
+add_next : tie.Need-overflow_add-next invariant_loop decreases_loop
 add_next c = omega (arith, (turned c).within)
 
-part_frame_end : tie.Need-slice-bounds-frame-end invariant_loop decreases_loop
+part_frame_end : tie.Need-slice_bounds-frame-end invariant_loop decreases_loop
 part_frame_end c = (turned c).within
 
-frame_requires : tie.Need-frame-requires invariant_loop decreases_loop
+frame_requires : tie.Need-frame-end-requires invariant_loop decreases_loop
 frame_requires c κs =
     let in-loop = c.before.before in
-    let loop = in-loop.before.loop in
+    let loop = in-loop.before.loop-i in
     let t = turned in-loop in
     (t.whole, omega (arith, t.within, loop.invariant.2, loop.invariant.5, in-loop.before.before.before.before.requires.1))
 
-loop_again : tie.Need-loop-preserved invariant_loop decreases_loop
+loop_again : tie.Need-loop-i-preserved invariant_loop decreases_loop
 loop_again c =
-    let printed = c.before.before.frame in
+    let printed = c.before.before.frame-end in
     let in-loop = c.before.before.before.before.before in
-    let loop = in-loop.before.loop in
+    let loop = in-loop.before.loop-i in
     let next = loop.i + frame_bytes classic in
     let t = turned in-loop in
     let one = spelled_frame (frame_in (take (next - loop.i) (drop loop.i (reply in-loop)))) in
@@ -71,11 +71,11 @@ returns : tie.Need-returns invariant_loop decreases_loop
 returns c =
     let at-loop = c.before in
     let start = at-loop.before.before.before in
-    let e : at-loop.loop.i ≡ length start.args.reply.now = omega arith in (
-      omega (arith, rw (e, drop-length start.args.reply.now) at at-loop.loop.invariant.3),
-      omega (arith, e, at-loop.loop.invariant.2),
-      sym (over_none newer at-loop.loop.out at-loop.loop.end) ∙ rw (e, drop-length start.args.reply.now) at
-          at-loop.loop.invariant.4,
+    let e : at-loop.loop-i.i ≡ length start.args.reply.now = omega arith in (
+      omega (arith, rw (e, drop-length start.args.reply.now) at at-loop.loop-i.invariant.3),
+      omega (arith, e, at-loop.loop-i.invariant.2),
+      sym (over_none newer at-loop.loop-i.out at-loop.loop-i.end) ∙ rw (e, drop-length start.args.reply.now) at
+          at-loop.loop-i.invariant.4,
     )
 
 pub frames_spec : {M : Type 1} → statement M
@@ -92,5 +92,5 @@ frames_spec =
     frame_requires
     (λ c. omega arith)
     loop_again
-    (λ c. c.before.loop.invariant.5)
+    (λ c. c.before.loop-i.invariant.5)
     returns)

@@ -12,17 +12,17 @@ use Rattle.desk_print.proofs.Printing.{unspaced_more}
 use Rattle.desk_print.proofs.unspaced.Statement.{statement}
 use Rattle.desk_print.proofs.unspaced.Tie as tie
 
-abbrev invariant_loop : tie.invariant-loop
+abbrev invariant_loop : tie.invariant-loop-i
 invariant_loop bytes out₀ at n end₀ i₀ out end i =
     (i ≤ n)
     × (end ≡ at + i * 2)
     × (out ≡ put out₀ at (unspaced (take i bytes)))
     × (length out ≡ length out₀)
 
-abbrev decreases_loop : tie.decreases-loop
+abbrev decreases_loop : tie.decreases-loop-i
 decreases_loop bytes out₀ at n end₀ i₀ out end i = n - i
 
-loop_again : tie.Need-loop-preserved invariant_loop decreases_loop
+loop_again : tie.Need-loop-i-preserved invariant_loop decreases_loop
 loop_again c =
     let after-copy = c.before.before in
     let after-digit2 = after-copy.before.before.before in
@@ -31,19 +31,19 @@ loop_again c =
     let start = at-loop.before.before.before in (
       omega arith,
       omega arith,
-      after-copy.copy.ensures ∙ rw (after-digit.digit.ensures, after-digit2.digit2.ensures, at-loop.loop.invariant.2)
-          (unspaced_more start.args.out.now start.args.at start.args.bytes.now at-loop.loop.i at-loop.loop.end
-          (omega arith) at-loop.loop.invariant.1),
-      ap length after-copy.copy.ensures ∙ simp (length_over newer) at-loop.loop.invariant.3,
+      after-copy.copy.ensures ∙ rw (after-digit.digit.ensures, after-digit2.digit-in-loop-i.ensures, at-loop.loop-i.invariant.2)
+          (unspaced_more start.args.out.now start.args.at start.args.bytes.now at-loop.loop-i.i at-loop.loop-i.end
+          (omega arith) at-loop.loop-i.invariant.1),
+      ap length after-copy.copy.ensures ∙ simp (length_over newer) at-loop.loop-i.invariant.3,
     )
 
 returns : tie.Need-returns invariant_loop decreases_loop
 returns c =
     let at-loop = c.before in
     let start = at-loop.before.before.before in
-    let e : at-loop.loop.i ≡ length start.args.bytes.now = omega arith in (
-      rw e at at-loop.loop.invariant.1,
-      rw (e, take_all (length start.args.bytes.now) start.args.bytes.now (omega arith)) at at-loop.loop.invariant.2,
+    let e : at-loop.loop-i.i ≡ length start.args.bytes.now = omega arith in (
+      rw e at at-loop.loop-i.invariant.1,
+      rw (e, take_all (length start.args.bytes.now) start.args.bytes.now (omega arith)) at at-loop.loop-i.invariant.2,
     )
 
 pub unspaced_spec : {M : Type 1} → statement M
@@ -54,7 +54,7 @@ unspaced_spec =
     decreases_loop
     (λ c. (omega arith, omega arith, sym (over_none newer _ _), refl))
     (λ c. omega arith)
-    (λ c κs. omega (arith, c.shared-slice-known2.given c.before.before.loop.i))
+    (λ c κs. omega (arith, c.shared_slice_known-in-loop-i-1.given c.before.before.loop-i.i))
     (λ c. omega arith)
     (λ c κs. search rules)
     (λ c. search rules)
@@ -63,5 +63,5 @@ unspaced_spec =
     (λ c. omega arith)
     (λ c. omega arith)
     loop_again
-    (λ c. c.before.loop.invariant.3)
+    (λ c. c.before.loop-i.invariant.3)
     returns)

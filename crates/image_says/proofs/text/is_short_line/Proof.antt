@@ -9,7 +9,7 @@ pub is_short_line_spec : {M : Type 1} → statement M
 is_short_line_spec =
     tie.close
     (tie.spec
-    (λ c. no_type c.before.args.line.now c.if1.true)
+    (λ c. no_type c.before.args.line.now c.if-line-lt2.true)
     (λ c. search rules)
     (λ c. search rules)
     (λ c. refl))

@@ -1,10 +1,9 @@
 -- By where each memory begins and ends among the bytes.
-use mathlib.Core.Path.{refl}
+use Rattle.std.proofs.Common.{refl}
 use Rattle.keeping.proofs.Rooms.{lengths, are_proper, all_bytes, memories_back, lengths_in, bytes_back}
-use Rattle.keeping.proofs.held.comes_back.Statement.{statement}
-use Rattle.keeping.proofs.held.comes_back.Tie as tie
+use Rattle.keeping.proofs.held.comes_back.Goals as goal
 
-returns : tie.Need-returns
+pub returns : goal.returns
 returns c =
     record {
       bytes = refl;
@@ -13,9 +12,3 @@ returns c =
       room = bytes_back;
       lengths = λ l e. are_proper _ (lengths_in l e);
     }
-
-pub comes_back_spec : {M : Type 1} → statement M
-comes_back_spec =
-    tie.close
-    (tie.spec
-    returns)
