@@ -2,7 +2,7 @@
 use native.Mathlib.Omega.{arith}
 use mathlib.Core.Path.{◌≡◌, refl, ◌∙◌}
 use Prim.Native.Nat.{◌≤◌, ◌<◌, ◌+◌}
-use lib.ListN.{length, drop, length-drop}
+use lib.ListN.{length, length-drop}
 use lib.Seq.{drop-length, drop-drop}
 use Rattle.words.proofs.Slices.{to_the_end}
 use Rattle.memories.specs.Memories.{memories}

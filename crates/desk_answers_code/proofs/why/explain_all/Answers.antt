@@ -1,8 +1,7 @@
 -- Each turn explains two notes more; what is left then ends as the whole does.
 use native.Mathlib.Omega.{arith}
 use mathlib.Core.Path.{refl, ◌∙◌}
-use Prim.Native.Nat.{◌+◌, ◌*◌, ◌≤◌}
-use lib.ListN.{length, drop, length-drop}
+use lib.ListN.{length-drop}
 use Rattle.desk_answers.proofs.Telling.{all_left}
 use Rattle.desk_print.proofs.Adding.{nothing}
 use Rattle.desk_answers_code.proofs.Explaining.{one_explained, all_explained}

@@ -1,14 +1,10 @@
 -- Each turn explains two notes more; what is left then ends as the whole does.
-use native.Mathlib.Omega.{arith}
-use mathlib.Core.Path.{◌≡◌, refl, ◌∙◌}
+use mathlib.Core.Path.{◌≡◌}
 use Prim.Native.Nat.{◌+◌, ◌*◌, ◌-◌, ◌≤◌}
-use lib.ListN.{length, drop, length-drop}
-use borrow.Author.Tests.{not-true, not-false}
+use lib.ListN.{length, drop}
 use Rattle.desk_answers.specs.Promise.{Continues, note_room}
 use Rattle.desk_answers.specs.Why.{explanations}
-use Rattle.desk_answers.proofs.Telling.{all_left}
-use Rattle.desk_print.proofs.Adding.{nothing}
-use Rattle.desk_answers_code.proofs.Explaining.{saying, one_explained, all_explained}
+use Rattle.desk_answers_code.proofs.Explaining.{saying}
 use Rattle.desk_answers_code.proofs.why.explain_all.Given as goal
 
 abbrev pub invariant-loop-i : goal.invariant-loop-i
