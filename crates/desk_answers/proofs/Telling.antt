@@ -4,8 +4,6 @@ use mathlib.Core.Bool.{Bool, true, false}
 use mathlib.Core.List.{List, [], ◌∷◌, ◌++◌, map, append-nil, append_assoc}
 use Prim.Native.Nat.{ℕ, ◌+◌, ◌*◌, ◌%◌, ◌≤◌, ◌<◌}
 use native.Mathlib.Omega.{arith}
-use denote.Enum.Declared.{tag_of}
-use types.Run.{OneOf, miss}
 use lib.Dec.{leb}
 use borrow.Author.Tests.{leb-true, leb-false}
 use lib.ListN.{length, set, take, drop, length-append, length-drop}
@@ -36,7 +34,6 @@ use Rattle.desk_answers.specs.Why.{note_of}
 use Rattle.desk_answers.specs.Promise.{Tells, Continues}
 use Rattle.desk_lines.specs.declared.Kind.{Kind}
 use Rattle.desk_lines.specs.declared.Kind.TheVariants.{Bytes, Frame, PowerOn, Other}
-use Rattle.desk_lines.specs.contracts.Kind.{the_type}
 use Rattle.desk_print.proofs.Printing.{length-spelled}
 use Rattle.desk_lines.proofs.Lines.{kind_beyond}
 
@@ -199,23 +196,21 @@ obeyed_told why is p q at end last m out' out'' h a =
     }
 
 -- a line of another kind than Other is answered by the replies of its calls
-pub obeyed_by : (why : Bool) (k : Kind) (n : ℕ) (line : List ℕ) (p : State) → OneOf (0 ∷ 1 ∷ 2 ∷ []) (tag_of the_type k)
+pub obeyed_by : (why : Bool) (k : Kind) (n : ℕ) (line : List ℕ) (p : State) → (k ≡ Other → ⊥)
     → answer_by why k n line p ≡ obeyed why (calls_of k line) p
 unfolding answer_by
 obeyed_by why Bytes n line p h = refl
 obeyed_by why Frame n line p h = refl
 obeyed_by why PowerOn n line p h = refl
-obeyed_by why Other n line p h = absurd (miss (0 ∷ 1 ∷ 2 ∷ []) 3 tt h)
+obeyed_by why Other n line p h = absurd (h refl)
 
 -- and has no more than the most characters
-pub few_characters : (k : Kind) (line : List ℕ) → k ≡ kind_of line → OneOf (0 ∷ 1 ∷ 2 ∷ []) (tag_of the_type k) → length line ≤ most_characters
+pub few_characters : (k : Kind) (line : List ℕ) → k ≡ kind_of line → (k ≡ Other → ⊥) → length line ≤ most_characters
 few_characters k line e h = by_length (leb (length line) most_characters) refl
   where
     by_length : (t : Bool) → leb (length line) most_characters ≡ t → length line ≤ most_characters
     by_length true l = leb-true (length line) most_characters l
-    by_length false l =
-        let other = e ∙ sym (kind_beyond line (leb-false (length line) most_characters l)) in
-        absurd (miss (0 ∷ 1 ∷ 2 ∷ []) 3 tt (subst (λ (x : Kind). OneOf (0 ∷ 1 ∷ 2 ∷ []) (tag_of the_type x)) other h))
+    by_length false l = absurd (h (e ∙ sym (kind_beyond line (leb-false (length line) most_characters l))))
 
 -- nothing is told in no character
 pub nothing_told : (p : State) (at : ℕ) (out : List ℕ) → Tells (quiet p) at out at out p

@@ -7,12 +7,12 @@ use Rattle.desk_answers.proofs.Telling.{length-notice, noticed}
 use Rattle.desk_answers_code.proofs.disobey.Statement.{statement}
 use Rattle.desk_answers_code.proofs.disobey.Tie as tie
 
-same_length : tie.Need-same-length
+same_length : tie.Need-shape_of-out
 same_length c =
     let after-number = c.before.before in
     let after-copy = after-number.before.before.before.before in
-    length-set after-number.number.new.1.0 after-number.number.result 10 ∙ after-number.number.auto.1.0 ∙
-    after-copy.copy.auto.0
+    length-set after-number.number-end.new.out after-number.number-end.result 10 ∙ after-number.number-end.auto.out ∙
+    after-copy.copy.auto.memory
 
 returns : tie.Need-returns
 returns c =
@@ -20,12 +20,12 @@ returns c =
     let after-copy = after-number.before.before.before.before in
     let start = after-copy.before.before.before.before in
     let l = length-notice start.args.number in (
-      omega (arith, l, after-number.number.ensures.0),
+      omega (arith, l, after-number.number-end.ensures.0),
       (
-        omega (arith, after-number.number.ensures.1),
-        noticed start.args.number start.args.at after-number.number.result start.args.out.now
-            after-number.number.new.1.0 after-number.number.ensures.0
-            (rw after-copy.copy.ensures at after-number.number.ensures.2),
+        omega (arith, after-number.number-end.ensures.1),
+        noticed start.args.number start.args.at after-number.number-end.result start.args.out.now
+            after-number.number-end.new.out after-number.number-end.ensures.0
+            (rw after-copy.copy.ensures at after-number.number-end.ensures.2),
       ),
     )
 

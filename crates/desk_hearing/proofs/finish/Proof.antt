@@ -10,7 +10,7 @@ use Rattle.desk_answers.specs.Desk.{input_ends}
 use Rattle.desk_hearing.proofs.finish.Statement.{statement}
 use Rattle.desk_hearing.proofs.finish.Tie as tie
 
-returns : tie.Need-returns
+returns : tie.Need-returns-then-desk-gt0
 unfolding input_ends
 returns c =
     let after-end-line = c.before.before.before.before.before.before.before.before in
@@ -18,18 +18,18 @@ returns c =
     let start = then1.before.before.before.before.before.before.before in (
       rw (
         length-take-le start.args.desk.kept start.args.line.now start.requires.0,
-        lt-ltb 0 start.args.desk.kept then1.if1.true,
+        lt-ltb 0 start.args.desk.kept then1.if-desk-gt0.true,
       ) after-end-line.end_line.ensures.0,
       omega (arith, after-end-line.end_line.ensures.1.0),
     )
 
-returns_2 : tie.Need-returns-2
+returns_2 : tie.Need-returns-else-desk-gt0
 unfolding input_ends
 returns_2 c =
     let start = c.before.before.before.before.before.before.before in (
       rw (
         length-take-le start.args.desk.kept start.args.line.now start.requires.0,
-        le-ltb 0 start.args.desk.kept c.if1.false,
+        le-ltb 0 start.args.desk.kept c.if-desk-gt0.false,
       ) (record {
         end = omega arith;
         text = sym (over_none newer start.args.out.now start.args.desk.end);

@@ -5,17 +5,17 @@ use Rattle.desk_hearing.proofs.Hearing.{kept_stored, kept_full}
 use Rattle.desk_hearing.proofs.keep.Statement.{statement}
 use Rattle.desk_hearing.proofs.keep.Tie as tie
 
-returns : tie.Need-returns
+returns : tie.Need-returns-then-kept-lt-KEPT_CHARACTERS
 returns c =
     let start = c.before in (
-      kept_stored start.args.line.now start.args.kept start.args.character start.requires.0 c.if1.true,
+      kept_stored start.args.line.now start.args.kept start.args.character start.requires.0 c.if-kept-lt-KEPT_CHARACTERS.true,
       (omega arith, omega arith),
     )
 
-returns_2 : tie.Need-returns-2
+returns_2 : tie.Need-returns-else-kept-lt-KEPT_CHARACTERS
 returns_2 c =
     let start = c.before in (
-      kept_full start.args.line.now start.args.kept start.args.character start.requires.0 start.requires.1 c.if1.false,
+      kept_full start.args.line.now start.args.kept start.args.character start.requires.0 start.requires.1 c.if-kept-lt-KEPT_CHARACTERS.false,
       (omega arith, omega arith),
     )
 

@@ -12,10 +12,10 @@ use Rattle.desk_print.proofs.Adding.{nothing}
 use Rattle.desk_answers_code.proofs.why.note.Statement.{statement}
 use Rattle.desk_answers_code.proofs.why.note.Tie as tie
 
-returns_2 : tie.Need-returns-2
+returns_2 : tie.Need-returns
 returns_2 c =
     let start = c.before in (
-      rw (ne_eqb start.args.reason 0 c.if1.false) (record {
+      rw (ne_eqb start.args.reason 0 c.if-reason-eq-NO_REASON.false) (record {
         ends = refl;
         written = rw (
           ← put_one start.args.notes.now start.args.at start.args.reason,
@@ -31,7 +31,7 @@ pub note_spec : {M : Type 1} → statement M
 note_spec =
     tie.close
     (tie.spec
-    (λ c. (rw (eq-eqb c.before.args.reason 0 c.if1.true) (nothing _ _), omega arith))
+    (λ c. (rw (eq-eqb c.before.args.reason 0 c.if-reason-eq-NO_REASON.true) (nothing _ _), omega arith))
     (λ c. search rules)
     (λ c. search rules)
     (λ c. search rules)
