@@ -89,7 +89,8 @@ pub fn load_marked(text: &[u8], shift: i16, image: &mut [u8], touched: &mut [u8]
     ensures loads { Loads shift text.now image.old result image.new }
     ensures marks { accepts result.cause ≡ true → touched.new ≡ all_touched shift (lines_of text.now) untouched }
 {
-    if image.len() != Board::FLASH_BYTES {
+    let wrong = image.len() != Board::FLASH_BYTES;
+    if wrong {
         return Loaded {
             cause: Cause::WrongLength,
             line: 0,

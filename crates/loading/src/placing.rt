@@ -34,7 +34,8 @@ fn place_at(address: i64, n: usize) -> Place
     }
     let this = address as usize;
     let first = Board::FLASH_FIRST as usize;
-    if this < first {
+    let below = this < first;
+    if below {
         return Place::Outside;
     }
     let offset = this - first;

@@ -46,7 +46,8 @@ pub fn line_at(text: &[u8], at: usize) -> Span
         return Span { stop: feed, next };
     }
     let before = text[feed - 1];
-    if before == CARRIAGE_RETURN {
+    let returned = before == CARRIAGE_RETURN;
+    if returned {
         Span {
             stop: feed - 1,
             next,

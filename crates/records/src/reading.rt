@@ -22,7 +22,8 @@ fn kind_by(t: u8) -> Kind
     if (t == b'1') | (t == b'2') | (t == b'3') {
         return Kind::Data;
     }
-    if t == b'5' {
+    let counts = t == b'5';
+    if counts {
         return Kind::Count;
     }
     if (t == b'7') | (t == b'8') | (t == b'9') {

@@ -6,21 +6,21 @@ use Rattle.loading.specs.Loads.{untouched}
 use Rattle.loading.proofs.Turns.{length-all_loaded, copied, wrong_length_lem, loads, leaves}
 use Rattle.loading.proofs.load_marked.Goals as goal
 
-pub returns-then-image-ne-FLASH_BYTES-clause-loads : goal.returns-then-image-ne-FLASH_BYTES-clause-loads
-returns-then-image-ne-FLASH_BYTES-clause-loads c =
-    let w = wrong_length_lem c.args.shift c.args.text.now c.args.image.now c.if-image-ne-FLASH_BYTES.true in
+pub returns-then-wrong-clause-loads : goal.returns-then-wrong-clause-loads
+returns-then-wrong-clause-loads c =
+    let w = wrong_length_lem c.args.shift c.args.text.now c.args.image.now c.if-wrong.true in
     record { answer = w.0; left = w.1 }
 
 pub fold-loaded-requires : goal.fold-loaded-requires
 unfolding untouched
 fold-loaded-requires c =
-    let e = c.copy.ensures ∙ copied c.room-copied.result c.args.image.now (sym c.room-copied.ensures) c.if-image-ne-FLASH_BYTES.false in
-    (rw c.requires (length-replicate {A = ℕ} 32768 0), rw e c.if-image-ne-FLASH_BYTES.false)
+    let e = c.copy.ensures ∙ copied c.room-copied.result c.args.image.now (sym c.room-copied.ensures) c.if-wrong.false in
+    (rw c.requires (length-replicate {A = ℕ} 32768 0), rw e c.if-wrong.false)
 
 pub returns-then-accepts-clause-loads : goal.returns-then-accepts-clause-loads
 returns-then-accepts-clause-loads c =
     let image = c.args.image.now in
-    let m = c.if-image-ne-FLASH_BYTES.false in
+    let m = c.if-wrong.false in
     let s = to_z-of_z w16 c.args.shift c.ranges.shift in
     let whole = c.copy.ensures ∙ copied c.room-copied.result image (sym c.room-copied.ensures) m in
     let y = sym c.accepts.ensures ∙ c.if-accepts.true in
@@ -32,7 +32,7 @@ returns-then-accepts-clause-loads c =
 
 pub returns-else-accepts-clause-loads : goal.returns-else-accepts-clause-loads
 returns-else-accepts-clause-loads c =
-    let m = c.if-image-ne-FLASH_BYTES.false in
+    let m = c.if-wrong.false in
     let answer = rw (to_z-of_z w16 c.args.shift c.ranges.shift, c.requires) at c.fold-loaded.ensures.answer in
     let l = leaves c.args.shift c.args.text.now c.args.image.now c.fold-loaded.result m answer (sym c.accepts.ensures ∙ c.if-accepts.false) in
     record { answer = l.0; left = l.1 }

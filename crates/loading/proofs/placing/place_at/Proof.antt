@@ -1,5 +1,6 @@
 -- By the tests: the address is below 0, below flash, with too many bytes, in flash or beyond it.
 use borrow.Author.Rules.{rules}
+use native.Mathlib.Omega.{arith}
 use mathlib.Core.Path.{◌≡◌}
 use mathlib.Core.Bool.{false}
 use lib.IntN.{pos}
@@ -18,18 +19,18 @@ back c = to_z-of_z w64 c.args.address c.ranges.address
 not_below_0 : (c : tie.Else-address-lt0) → lt_z c.before.args.address (pos 0) ≡ false
 not_below_0 c = rw (back c.before) at c.if-address-lt0.false
 
-returns_2 : tie.Need-returns-then-this-first
+returns_2 : tie.Need-returns-then-below
 returns_2 c =
     let else1 = c.before in
     let start = else1.before in
-    below start.args.address (not_below_0 else1) start.args.n (rw (back start) at c.if-this-first.true)
+    below start.args.address (not_below_0 else1) start.args.n (rw (back start) at c.if-below.true)
 
 returns_3 : tie.Need-returns-then-n-gt-FLASH_BYTES
 returns_3 c =
     let else2 = c.before in
     let else1 = else2.before in
     let start = else1.before in
-    too_many start.args.address (not_below_0 else1) start.args.n (rw (back start) at else2.if-this-first.false) c.if-n-gt-FLASH_BYTES.true
+    too_many start.args.address (not_below_0 else1) start.args.n (rw (back start) at else2.if-below.false) c.if-n-gt-FLASH_BYTES.true
 
 returns_4 : tie.Need-returns-then-offset-n
 returns_4 c =
@@ -37,7 +38,7 @@ returns_4 c =
     let else2 = else3.before in
     let else1 = else2.before in
     let start = else1.before in
-    rw (back start) (inside start.args.address (not_below_0 else1) start.args.n (rw (back start) at else2.if-this-first.false) else3.if-n-gt-FLASH_BYTES.false
+    rw (back start) (inside start.args.address (not_below_0 else1) start.args.n (rw (back start) at else2.if-below.false) else3.if-n-gt-FLASH_BYTES.false
     (rw (back start) at c.if-offset-n.true))
 
 returns_5 : tie.Need-returns-else-offset-n
@@ -46,7 +47,7 @@ returns_5 c =
     let else2 = else3.before in
     let else1 = else2.before in
     let start = else1.before in
-    beyond start.args.address (not_below_0 else1) start.args.n (rw (back start) at else2.if-this-first.false) else3.if-n-gt-FLASH_BYTES.false
+    beyond start.args.address (not_below_0 else1) start.args.n (rw (back start) at else2.if-below.false) else3.if-n-gt-FLASH_BYTES.false
     (rw (back start) at c.if-offset-n.false)
 
 pub place_at_spec : {M : Type 1} → statement M
@@ -57,6 +58,7 @@ place_at_spec =
     (λ c. rw (back c.before) (natural_fits c.before.args.address (not_below_0 c) c.before.ranges.address))
     (λ c. search rules)
     returns_2
+    (λ c. omega arith)
     returns_3
     returns_4
     returns_5)

@@ -24,7 +24,7 @@ returns_2 c =
     let f = after-feed-from.feed_from-feed.ensures in
     ends_at text at feed f feed (omega arith) f.from (omega arith) (stops_empty text at feed f c.if-feed-at.true)
 
-returns_3 : tie.Need-returns-then-before-eq-CARRIAGE_RETURN
+returns_3 : tie.Need-returns-then-returned
 returns_3 c =
     let else2 = c.before.before in
     let else1 = else2.before in
@@ -35,9 +35,9 @@ returns_3 c =
     let feed = after-feed-from.feed_from-feed.result in
     let f = after-feed-from.feed_from-feed.ensures in
     ends_at text at feed f (feed - 1) (omega arith) (omega arith) (omega arith)
-    (stops_return text at feed f else2.if-feed-at.false c.if-before-eq-CARRIAGE_RETURN.true)
+    (stops_return text at feed f else2.if-feed-at.false c.if-returned.true)
 
-returns_4 : tie.Need-returns-else-before-eq-CARRIAGE_RETURN
+returns_4 : tie.Need-returns-else-returned
 returns_4 c =
     let else2 = c.before.before in
     let else1 = else2.before in
@@ -47,7 +47,7 @@ returns_4 c =
     let at = start.args.at in
     let feed = after-feed-from.feed_from-feed.result in
     let f = after-feed-from.feed_from-feed.ensures in
-    ends_at text at feed f feed (omega arith) f.from (omega arith) (stops_full text at feed f else2.if-feed-at.false c.if-before-eq-CARRIAGE_RETURN.false)
+    ends_at text at feed f feed (omega arith) f.from (omega arith) (stops_full text at feed f else2.if-feed-at.false c.if-returned.false)
 
 pub line_at_spec : {M : Type 1} → statement M
 line_at_spec =

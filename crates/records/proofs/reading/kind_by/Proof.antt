@@ -4,12 +4,12 @@ use borrow.Author.Tests.{eq-eqb, ne_eqb}
 use Rattle.records.proofs.reading.kind_by.Statement.{statement}
 use Rattle.records.proofs.reading.kind_by.Tie as tie
 
-returns_3 : tie.Need-returns-then-t-eq53
+returns_3 : tie.Need-returns-then-counts
 returns_3 c =
     let else2 = c.before in
     let else1 = else2.before in
     let t = else1.before.args.t in
-    rw (ne_eqb t 48 else1.if-t-eq48.false, else2.if-t.false, eq-eqb t 53 c.if-t-eq53.true) refl
+    rw (ne_eqb t 48 else1.if-t-eq48.false, else2.if-t.false, eq-eqb t 53 c.if-counts.true) refl
 
 returns_4 : tie.Need-returns-then-t-2
 returns_4 c =
@@ -17,7 +17,7 @@ returns_4 c =
     let else2 = else3.before in
     let else1 = else2.before in
     let t = else1.before.args.t in
-    rw (ne_eqb t 48 else1.if-t-eq48.false, else2.if-t.false, ne_eqb t 53 else3.if-t-eq53.false, c.if-t-2.true) refl
+    rw (ne_eqb t 48 else1.if-t-eq48.false, else2.if-t.false, ne_eqb t 53 else3.if-counts.false, c.if-t-2.true) refl
 
 returns_5 : tie.Need-returns-else-t-2
 returns_5 c =
@@ -25,7 +25,7 @@ returns_5 c =
     let else2 = else3.before in
     let else1 = else2.before in
     let t = else1.before.args.t in
-    rw (ne_eqb t 48 else1.if-t-eq48.false, else2.if-t.false, ne_eqb t 53 else3.if-t-eq53.false, c.if-t-2.false) refl
+    rw (ne_eqb t 48 else1.if-t-eq48.false, else2.if-t.false, ne_eqb t 53 else3.if-counts.false, c.if-t-2.false) refl
 
 pub kind_by_spec : {M : Type 1} → statement M
 kind_by_spec =
