@@ -102,7 +102,8 @@ impl Session {
             let number = taken.number;
             done = done.followed_by(taken);
             count += front.silent;
-            if number != ACCEPTED {
+            let refused = number != ACCEPTED;
+            if refused {
                 return TakenBytes {
                     count: count,
                     call: done,

@@ -69,7 +69,8 @@ pub(crate) fn explain_all(why: bool, notes: &[u16], out: &mut [u8], at: usize) -
     ensures added { Adds out.old at result out.new (explained why notes.now) }
     ensures short { result ≤ at + note_room * length notes.now }
 {
-    if !why {
+    let quiet = !why;
+    if quiet {
         return at;
     }
     let n = notes.len();

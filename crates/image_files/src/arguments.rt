@@ -101,7 +101,8 @@ pub fn shift(text: &[u8]) -> Shift
     if text.len() < 1 {
         return Shift::NoShift;
     }
-    if text[0] == b'-' {
+    let minus = text[0] == b'-';
+    if minus {
         return backward(number(&text[1..]));
     }
     forward(number(text))

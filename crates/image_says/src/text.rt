@@ -19,7 +19,8 @@ fn counted(n: usize, thing: &[u8], out: &mut [u8], at: usize) -> usize
     let digits = desk_print::number(n as u64, out, at);
     let blank = add(b" ", out, digits);
     let end = add(thing, out, blank);
-    if n == 1 {
+    let one = n == 1;
+    if one {
         return end;
     }
     add(b"s", out, end)
@@ -45,7 +46,8 @@ fn outside(short: bool, out: &mut [u8], at: usize) -> usize
     ensures short { result ≤ at + 100 }
 {
     let end = add(b"address outside flash", out, at);
-    if !short {
+    let others = !short;
+    if others {
         return end;
     }
     add(
@@ -120,7 +122,8 @@ pub fn is_short(text: &[u8], number: usize) -> bool
     while at < n {
         let span = ends::line_at(text, at);
         let stop = span.stop;
-        if left <= 1 {
+        let here = left <= 1;
+        if here {
             return is_short_line(&text[at..stop]);
         }
         left -= 1;

@@ -51,7 +51,8 @@ fn lessen(reply: &mut [u8])
 fn turn(command: u8, reply: &mut [u8])
     ensures { reply.new ≡ in_st command reply.old }
 {
-    if command == code::GET_COMMANDS {
+    let commands = command == code::GET_COMMANDS;
+    if commands {
         lessen(reply);
         return;
     }

@@ -102,7 +102,8 @@ pub fn hand_on(taken: Taken, session: &mut [u8]) -> u8
     ensures { (result ≡ taken.number) × HandsOn taken session.old session.new }
 {
     let number = taken.number;
-    if number == ACCEPTED {
+    let accepted = number == ACCEPTED;
+    if accepted {
         let next = taken.session;
         write(next, session);
     }

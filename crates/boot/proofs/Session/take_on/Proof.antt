@@ -129,10 +129,10 @@ lengths c =
     (k.flash ∙ inv.4, k.sram ∙ inv.5, k.usd ∙ inv.6, kept c ∙ inv.7)
 
 -- the front that was taken before the test of its number
-abbrev front : tie.Then-number-ne-ACCEPTED invariant_loop decreases_loop → tie.After-take_front-front invariant_loop decreases_loop
+abbrev front : tie.Then-refused invariant_loop decreases_loop → tie.After-take_front-front invariant_loop decreases_loop
 front c = c.before.before.before.before.before.before.before.before.before.before.before.before
 
-abbrev front_2 : tie.Else-number-ne-ACCEPTED invariant_loop decreases_loop → tie.After-take_front-front invariant_loop decreases_loop
+abbrev front_2 : tie.Else-refused invariant_loop decreases_loop → tie.After-take_front-front invariant_loop decreases_loop
 front_2 c = c.before.before.before.before.before.before.before.before.before.before.before.before
 
 followed_by_requires : tie.Need-followed_by-done-requires invariant_loop decreases_loop
@@ -145,7 +145,7 @@ add_count c =
     let f = c.before.before.before.before.before.before.before.before.before.before.before in
     omega (arith, within f, (start (turn f)).well_formed)
 
-returns : tie.Need-returns-then-number-ne-ACCEPTED invariant_loop decreases_loop
+returns : tie.Need-returns-then-refused invariant_loop decreases_loop
 returns c =
     let f = front c in
     let at = turn f in
@@ -153,7 +153,7 @@ returns c =
     ends_leaves (start at).args.self (lent at) (start at).args.buffer.now (start at).args.bytes.now
     (ap (λ (t : Taken). t.number) both.ensures ∙ at.loop-count.invariant.1 ∙ ap (λ (t : Taken). t.number) at.before.unanswered-done.ensures)
     (omega (arith, ap (λ (t : Taken). t.length) both.ensures, fits f, at.loop-count.invariant.7))
-    (sym (begun at ∙ ended f c.if-number-ne-ACCEPTED.true
+    (sym (begun at ∙ ended f c.if-refused.true
     ∙ ap (λ (t : Taken). nothing_left (back f) t (at.loop-count.count + f.take_front-front.result.silent) (after f)) (sym both.ensures)))
 
 add_count_2 : tie.Need-overflow_add-count-in-loop-count invariant_loop decreases_loop
@@ -170,7 +170,7 @@ loop_again c =
       omega (arith, within f),
       ap (λ (t : Taken). t.number) both.ensures ∙ at.loop-count.invariant.1,
       omega (arith, ap (λ (t : Taken). t.length) both.ensures, fits f, kept f),
-      at.loop-count.invariant.3 ∙ went_on f c.if-number-ne-ACCEPTED.false
+      at.loop-count.invariant.3 ∙ went_on f c.if-refused.false
           ∙ ap (λ (t : Taken). left_over (start at).args.bytes.now (after f) (back f) t (at.loop-count.count + f.take_front-front.result.silent + 1))
           (sym both.ensures),
       (lengths f).0,

@@ -7,8 +7,8 @@ use Rattle.desk_print.proofs.Adding.{nothing}
 use Rattle.desk_answers_code.proofs.Explaining.{one_explained, all_explained}
 use Rattle.desk_answers_code.proofs.why.explain_all.Goals as goal
 
-pub returns-then-not-why : goal.returns-then-not-why
-returns-then-not-why c = record { added = rw c.if-not-why.true (nothing _ _); short = omega arith }
+pub returns-then-quiet : goal.returns-then-quiet
+returns-then-quiet c = record { added = rw c.if-quiet.true (nothing _ _); short = omega arith }
 
 pub loop-i-init : goal.loop-i-init
 loop-i-init c = (omega arith, omega arith, all_left _ _ _, refl)
@@ -29,7 +29,7 @@ shape_of-out c = c.loop-i.invariant.3
 
 pub returns : goal.returns
 returns c = record {
-  added = rw c.if-not-why.false (all_explained c.args.notes.now c.loop-i.i
+  added = rw c.if-quiet.false (all_explained c.args.notes.now c.loop-i.i
       (let l = length-drop c.loop-i.i c.args.notes.now in omega arith) c.loop-i.invariant.2);
   short = omega (arith, c.loop-i.invariant.1, c.loop-i.invariant.0);
 }

@@ -9,12 +9,12 @@ use Rattle.image_files.proofs.arguments.shift.Goals as goal
 pub returns-then-text-lt1 : goal.returns-then-text-lt1
 returns-then-text-lt1 c = no_shift c.args.text.now c.if-text-lt1.true
 
-pub returns-then-text-eq45 : goal.returns-then-text-eq45
+pub returns-then-minus : goal.returns-then-minus
 unfolding shift_in
-returns-then-text-eq45 c =
-    rw (eq-eqb (get_or c.args.text.now 0 0) 45 c.if-text-eq45.true, ← to_the_end 1 c.args.text.now, ← c.number.ensures)
+returns-then-minus c =
+    rw (eq-eqb (get_or c.args.text.now 0 0) 45 c.if-minus.true, ← to_the_end 1 c.args.text.now, ← c.number.ensures)
     c.backward.ensures
 
 pub returns : goal.returns
 unfolding shift_in
-returns c = rw (ne_eqb (get_or c.args.text.now 0 0) 45 c.if-text-eq45.false, ← c.number-2.ensures) c.forward.ensures
+returns c = rw (ne_eqb (get_or c.args.text.now 0 0) 45 c.if-minus.false, ← c.number-2.ensures) c.forward.ensures

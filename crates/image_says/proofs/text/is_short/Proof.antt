@@ -18,14 +18,14 @@ invariant_loop text number n left₀ at₀ left at = (at ≤ n) × (get_or (line
 abbrev decreases_loop : tie.decreases-loop-at
 decreases_loop text number n left₀ at₀ left at = n - at
 
-returns : tie.Need-returns-then-left-le1 invariant_loop decreases_loop
+returns : tie.Need-returns-then-here invariant_loop decreases_loop
 returns c =
     let then1 = c.before.before in
     let after-line-at = then1.before in
     let at-loop = after-line-at.before.before in
     let start = at-loop.before.before in
     c.is_short_line.ensures ∙ ap is_short (sym (numbered_here _ (lines_of
-    (drop after-line-at.line_at-span.result.next start.args.text.now)) at-loop.loop-at.left then1.if-left-le1.true) ∙ rw
+    (drop after-line-at.line_at-span.result.next start.args.text.now)) at-loop.loop-at.left then1.if-here.true) ∙ rw
     after-line-at.line_at-span.ensures.lines at at-loop.loop-at.invariant.1)
 
 loop_again : tie.Need-loop-at-preserved invariant_loop decreases_loop
