@@ -1,7 +1,7 @@
 -- What comes of a character: it is kept, or ends a line that is answered.
-use mathlib.Core.Path.{◌≡◌, refl, sym, ap, ◌∙◌}
+use mathlib.Core.Path.{◌≡◌, refl, ap}
 use mathlib.Core.Bool.{true, false}
-use mathlib.Core.List.{List, [], ◌∷◌, ◌++◌, append-nil}
+use mathlib.Core.List.{List, [], ◌∷◌, ◌++◌}
 use Prim.Native.Nat.{ℕ, zero, suc, ◌+◌, ◌≤◌, ◌<◌}
 use native.Mathlib.Nat.{not-suc-le-zero, le_of_suc-le-suc}
 use native.Mathlib.Numerals.{add-one}
@@ -10,13 +10,11 @@ use lib.Dec.{eqb}
 use lib.ListN.{length, get_or, take, drop, set}
 use lib.Seq.{drop-cons, length-take-le}
 use borrow.Author.Tests.{lt-ltb, le-ltb}
-use Rattle.words.specs.Over.{put}
 use Rattle.memories.specs.Memories.{Memories}
 use Rattle.boot.specs.Promise.{state_of}
 use Rattle.desk_lines.specs.Lines.{line_feed}
-use Rattle.desk_answers.specs.Told.{Told, quiet, ◌then◌}
+use Rattle.desk_answers.specs.Told.{◌then◌}
 use Rattle.desk_answers.specs.Desk.{Desk, kept_characters, keep, kept, line_ends, hears}
-use Rattle.desk_answers.specs.Promise.{Tells}
 use Rattle.desk_passing.specs.Passing.{at_line}
 use Rattle.desk_hearing.specs.Promise.{desk_of}
 use Rattle.desk_hearing.specs.declared.Desk as C
@@ -38,15 +36,6 @@ kept_full l j c e k h = rw (length-take-le j l (omega arith), le-ltb j kept_char
 -- a desk of which nothing is kept is before a line
 pub nothing_kept : (d : C.Desk) (line : List ℕ) (m : Memories) → d.kept ≡ 0 → desk_of d line m ≡ at_line d.why d.session m d.lines
 nothing_kept d line m e = ap (λ (n : ℕ). record { why = d.why; state = state_of d.session m; lines = d.lines; line = take n line }) e
-
--- something told, and a state made of what is then so
-pub told_as : {A B : Type 0} (t : Told A) (g : A → B) (at end : ℕ) (out out' : List ℕ) (a : A)
-    → Tells t at out end out' a → Tells (t then λ p. quiet (g p)) at out end out' (g a)
-told_as t g at end out out' a h = record {
-  end = h.end ∙ ap (λ (l : List ℕ). at + length l) (sym (append-nil t.text));
-  text = h.text ∙ ap (λ (l : List ℕ). put out at l) (sym (append-nil t.text));
-  state = ap g h.state;
-}
 
 -- the next character ends a line, or is kept
 module _ (s : List ℕ) (i : ℕ) (d : Desk) (h : i < length s) where

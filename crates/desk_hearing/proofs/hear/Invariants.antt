@@ -1,21 +1,15 @@
 -- Each turn takes one character in, or a line and what is passed behind it; before it, what is left ends as the whole does, and there is room for it.
-use native.Mathlib.Omega.{arith}
-use mathlib.Core.Path.{◌≡◌, refl, sym, ap, ◌∙◌}
+use mathlib.Core.Path.{◌≡◌}
 use Prim.Native.Nat.{◌≤◌, ◌-◌, ◌+◌, ◌*◌}
-use lib.ListN.{length, drop, length-drop}
-use lib.Seq.{drop-length, drop-drop}
-use borrow.Author.Tests.{eq-eqb, ne_eqb}
-use Rattle.words.proofs.Slices.{to_the_end}
+use lib.ListN.{length, drop}
 use Rattle.memories.specs.Memories.{memories}
 use Rattle.desk_answers.specs.Desk.{kept_characters, hears}
 use Rattle.desk_hearing.specs.Promise.{desk_of}
 use Rattle.desk_answers.specs.Promise.{Continues, character_room}
-use Rattle.desk_answers.proofs.Telling.{all_left, left_of_left, none_left}
-use Rattle.desk_hearing.proofs.Hearing.{hears_end, hears_kept}
 use Rattle.desk_hearing.proofs.hear.Given as goal
 
 abbrev pub invariant-loop-i : goal.invariant-loop-i
-invariant-loop-i l =    (l.i ≤ l.n)
+invariant-loop-i l = (l.i ≤ l.n)
     × (length l.line ≡ kept_characters)
     × (l.here.kept ≤ kept_characters)
     × (l.here.lines ≤ l.initial.here.lines + l.i)
