@@ -1,4 +1,4 @@
--- By the look_up and the DLC.
+-- By the look-up and the DLC.
 use Rattle.std.proofs.Common.{refl}
 use Rattle.command.specs.Decision.{if◌gives◌else◌}
 use Rattle.can.specs.Conversation.{commanded}
