@@ -112,7 +112,8 @@ pub fn fill(memory: &mut [u8], at: usize, n: usize, byte: u8)
 
 // Room for N bytes, all 0.
 pub fn zeros<const N: usize>() -> [u8; N]
-    ensures { result ≡ replicate N 0 }
+    ensures zeros { result ≡ replicate N 0 }
+    ensures length { length result ≡ N }
 {
     [0; N]
 }
