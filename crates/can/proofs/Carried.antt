@@ -8,11 +8,10 @@ use native.Mathlib.Omega.{arith}
 use lib.ListN.{length, get_or, drop}
 use lib.Seq.{drop-cons, drop-length}
 use borrow.Author.Tests.{ne_eqb}
+use Rattle.std.specs.Prelude.{Option, Some, None}
 use Rattle.words.specs.Bytes.{number}
 use Rattle.command.specs.Commands.{can_commands, look_up}
 use Rattle.command.specs.declared.Command.{Command}
-use Rattle.command.specs.declared.Lookup.{Lookup}
-use Rattle.command.specs.declared.Lookup.TheVariants.{Known, Unknown}
 use Rattle.can.specs.Conversation.{dlc_fits, dlc_right}
 
 -- nothing stands behind the last byte
@@ -31,8 +30,8 @@ last_two k l h =
     drop-cons l k 0 (omega arith) ∙ ap (λ (m : List ℕ). get_or l k 0 ∷ m) (last_one (suc k) l h)
 
 -- what is tested of the command that was looked up is its DLC
-pub tested : (k : Command) (l m : Lookup) (n : ℕ) (t : Bool) → l ≡ m → l ≡ Known k → t ≡ dlc_right m n → dlc_fits k n ≡ t
-tested k l m n t e f g = ap (λ (x : Lookup). dlc_right x n) (sym f ∙ e) ∙ sym g
+pub tested : (k : Command) (l m : Option Command) (n : ℕ) (t : Bool) → l ≡ m → l ≡ Some k → t ≡ dlc_right m n → dlc_fits k n ≡ t
+tested k l m n t e f g = ap (λ (x : Option Command). dlc_right x n) (sym f ∙ e) ∙ sym g
 
 -- the commands below 0x03 ignore the DLC
 pub any_dlc : (n dlc : ℕ) → n < 3 → dlc_right (look_up can_commands n) dlc ≡ true
@@ -42,7 +41,7 @@ any_dlc (suc (suc zero)) dlc h = refl
 any_dlc (suc (suc (suc n))) dlc h = absurd (not-suc-le-zero (le_of_suc-le-suc (le_of_suc-le-suc (le_of_suc-le-suc h))))
 
 -- a number over 0xFF is no command's
-pub no_command_lem : (n : ℕ) → 0xFF < n → look_up can_commands n ≡ Unknown
+pub no_command_lem : (n : ℕ) → 0xFF < n → look_up can_commands n ≡ None
 no_command_lem n h =
     simp (
       ne_eqb n 0x00 (λ e. omega arith),

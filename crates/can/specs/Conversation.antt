@@ -1,23 +1,19 @@
 -- The CAN conversation, command by command and step by step: document 01, "CAN conversation".
-use Rattle.std.specs.Prelude.{ℕ, ◌+◌, Bool, true, not, ◌||◌, List, ◌∷◌, map, length, get_or, drop, eqb, leb}
+use Rattle.std.specs.Prelude.{ℕ, ◌+◌, Bool, true, not, ◌||◌, List, ◌∷◌, map, length, get_or, drop, eqb, leb, Option, Some, None, Ok, Err}
 use Rattle.words.specs.Bytes.{number}
 use Rattle.board.specs.Board.{address, identity}
 use Rattle.board.specs.Quantities.{count_of, one_less, address_in, count_sent, address_bytes, selector_bytes, long_count_bytes}
 use Rattle.board.specs.declared.View.{View}
 use Rattle.memories.specs.declared.Change.TheVariants.{EraseAll}
 use Rattle.command.specs.Commands.{code, can_commands, look_up}
-use Rattle.command.specs.Decision.{if◌gives◌else◌, answer, alter, nack, judged}
+use Rattle.command.specs.Decision.{Verdict, if◌gives◌else◌, answer, alter, nack, judged}
 use Rattle.command.specs.Progress.{Progress, progress_at, staged_with, short, overfull}
 use Rattle.command.specs.declared.Command.{Command}
 use Rattle.command.specs.declared.Command.TheVariants.{GetCommands, GetVersion, GetDeviceId, ReadMemory, Jump, WriteMemory, Erase, ProgramProtect}
 use Rattle.command.specs.declared.Command.TheVariants.{ProgramUnprotect, AccessProtect, AccessUnprotect, FirmwareCrc, ResetDevice, Speed}
 use Rattle.command.specs.declared.Decision.{Decision}
-use Rattle.command.specs.declared.Lookup.{Lookup}
-use Rattle.command.specs.declared.Lookup.TheVariants.{Known, Unknown}
 use Rattle.command.specs.declared.Next.TheVariants.{Gather, GoIdle, SetSpeed, Enter, EnterAt}
 use Rattle.command.specs.declared.FixedReply.TheVariants.{Silence, Ack, AckAck, AckNack, Commands, Version, DeviceId}
-use Rattle.command.specs.declared.Verdict.{Verdict}
-use Rattle.command.specs.declared.Verdict.TheVariants.{Fine, No}
 use Rattle.command.specs.declared.Why.TheVariants.{BadComplement, UnknownCommand, OtherFrame, BadRange, BadSpeed}
 use Rattle.rules.specs.Rules.{unless_protected, telling, reading, write_verdict, writing, selector_of, erasing, erase_all_verdict, protecting, releasing}
 use Rattle.rules.specs.Rules.{locking, unlocking, resetting, jumping, summing}
@@ -62,14 +58,14 @@ dlc_fits ResetDevice n = true
 dlc_fits Speed n = eqb n 2
 
 -- the same for the command that was looked up; an unknown command has no rule
-abbrev pub dlc_right : Lookup → ℕ → Bool
-dlc_right (Known c) n = dlc_fits c n
-dlc_right Unknown n = true
+abbrev pub dlc_right : Option Command → ℕ → Bool
+dlc_right (Some c) n = dlc_fits c n
+dlc_right None n = true
 
 -- special erases: ACK, then ACK or NACK
 unfoldable pub erased_or_not : Verdict → Decision
-erased_or_not Fine = alter AckAck EraseAll GoIdle
-erased_or_not (No w) = answer (AckNack w) GoIdle
+erased_or_not (Ok u) = alter AckAck EraseAll GoIdle
+erased_or_not (Err w) = answer (AckNack w) GoIdle
 
 -- a list is announced, or a special erase is done
 unfoldable pub selected : View → Selector → Decision
@@ -98,10 +94,10 @@ obeyed view d Speed =
     if leb (get_or d 0 0) largest_speed gives answer AckAck (SetSpeed (get_or d 0 0)) else nack BadSpeed
 
 -- the ID is the command; a wrong DLC, no command, or a protected one: NACK
-unfoldable pub commanded : View → List ℕ → Lookup → Decision
-commanded view d (Known c) =
+unfoldable pub commanded : View → List ℕ → Option Command → Decision
+commanded view d (Some c) =
     if dlc_fits c (length d) gives unless_protected view c (obeyed view d c) else nack BadComplement
-commanded view d Unknown = nack UnknownCommand
+commanded view d None = nack UnknownCommand
 
 -- frames of the running ID are gathered until all bytes are there; another ID, or DLC 0, ends the command
 unfoldable pub gathering : Command → Progress → Frame → Decision → Decision

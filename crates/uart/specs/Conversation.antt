@@ -1,5 +1,5 @@
 -- The UART conversation, step by step: document 01, "UART conversation".
-use Rattle.std.specs.Prelude.{ℕ, ◌+◌, Bool, List, [], ◌∷◌, ◌++◌, map, length, get_or, take, eqb}
+use Rattle.std.specs.Prelude.{ℕ, ◌+◌, Bool, List, [], ◌∷◌, ◌++◌, map, length, get_or, take, eqb, Option, Some, None}
 use Rattle.words.specs.Bytes.{complement, xor_all, number, two_bytes}
 use Rattle.board.specs.Board.{address, identity}
 use Rattle.board.specs.Quantities.{count_of, less_one, one_less, address_in, count_sent, address_bytes, selector_bytes, long_count_bytes, numbers_bytes}
@@ -15,8 +15,6 @@ use Rattle.command.specs.declared.Command.{Command}
 use Rattle.command.specs.declared.Command.TheVariants.{GetCommands, GetVersion, GetDeviceId, ReadMemory, Jump, WriteMemory, Erase, ProgramProtect}
 use Rattle.command.specs.declared.Command.TheVariants.{ProgramUnprotect, AccessProtect, AccessUnprotect, FirmwareCrc, ResetDevice, Speed}
 use Rattle.command.specs.declared.Decision.{Decision}
-use Rattle.command.specs.declared.Lookup.{Lookup}
-use Rattle.command.specs.declared.Lookup.TheVariants.{Known, Unknown}
 use Rattle.command.specs.declared.Next.TheVariants.{Gather, GoIdle, Enter, EnterAt}
 use Rattle.command.specs.declared.FixedReply.TheVariants.{Silence, Ack, Commands, Version, DeviceId}
 use Rattle.command.specs.declared.Why.TheVariants.{BadComplement, UnknownCommand, BadChecksum, BadAddress, BadRange}
@@ -83,9 +81,9 @@ obeyed ResetDevice = resetting
 obeyed Speed = nack UnknownCommand
 
 -- unknown or protected: NACK
-unfoldable pub commanded : View → Lookup → Decision
-commanded view (Known c) = unless_protected view c (obeyed c)
-commanded view Unknown = nack UnknownCommand
+unfoldable pub commanded : View → Option Command → Decision
+commanded view (Some c) = unless_protected view c (obeyed c)
+commanded view None = nack UnknownCommand
 
 -- an address and the XOR of its four bytes
 unfoldable pub addressed : (Address → Decision) → List ℕ → Decision
