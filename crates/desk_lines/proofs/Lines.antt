@@ -1,5 +1,5 @@
 -- Laws of lines and their fields: the kind by the length, the first field, and characters that are too few for one.
-use mathlib.Core.Path.{◌≡◌, refl, ap, subst, ◌∙◌}
+use mathlib.Core.Path.{◌≡◌, refl, sym, ap, subst, ◌∙◌}
 use mathlib.Core.Bool.{Bool, true, false, ◌&&◌}
 use mathlib.Core.List.{List, [], ◌∷◌, ◌++◌}
 use Prim.Native.Nat.{ℕ, zero, suc, ◌+◌, ◌*◌, ◌≤◌, ◌<◌}
@@ -33,11 +33,30 @@ field_first s i h =
     ∙ ap (λ (l : List ℕ). get_or s (suc i) 0 ∷ l) (drop-cons s (suc (suc i)) 0 (omega arith))))
 
 -- characters that are too few for a field are fields where there are none
-pub short_fields : (l : List ℕ) (at n : ℕ) → at + length l ≡ n → length l < 3 → eqb at n ≡ are_fields l
-short_fields [] at n e h = eq-eqb at n (omega arith)
-short_fields (a ∷ []) at n e h = ne_eqb at n λ k. absurd (omega arith)
-short_fields (a ∷ b ∷ []) at n e h = ne_eqb at n λ k. absurd (omega arith)
-short_fields (a ∷ b ∷ c ∷ l) at n e h = absurd (not-suc-le-zero (le_of_suc-le-suc (le_of_suc-le-suc (le_of_suc-le-suc h))))
+pub short_fields : (l : List ℕ) (n : ℕ) → n ≡ length l → length l < 3 → eqb n 0 ≡ are_fields l
+short_fields [] n e h = eq-eqb n 0 e
+short_fields (a ∷ []) n e h = ne_eqb n 0 λ k. absurd (omega arith)
+short_fields (a ∷ b ∷ []) n e h = ne_eqb n 0 λ k. absurd (omega arith)
+short_fields (a ∷ b ∷ c ∷ l) n e h = absurd (not-suc-le-zero (le_of_suc-le-suc (le_of_suc-le-suc (le_of_suc-le-suc h))))
+
+-- a field and what stands behind it
+pub field_then : (f l : List ℕ) → length f ≡ 3 → are_fields (f ++ l) ≡ (are_fields f && are_fields l)
+field_then (a ∷ b ∷ c ∷ []) l e = by_test (is_field a b c)
+  where
+    by_test : (t : Bool) → (t && are_fields l) ≡ (t && true && are_fields l)
+    by_test true = refl
+    by_test false = refl
+field_then [] l e = absurd (omega arith)
+field_then (a ∷ []) l e = absurd (omega arith)
+field_then (a ∷ b ∷ []) l e = absurd (omega arith)
+field_then (a ∷ b ∷ c ∷ d ∷ f) l e = absurd (omega arith)
+
+-- a piece that is a field or none, and what stands behind it, are fields exactly where the whole is
+pub field_told : (s f t whole : List ℕ) (good : Bool) → s ≡ f ++ t → length f ≡ 3 → good ≡ (eqb (length f) 3 && are_fields f)
+    → are_fields s ≡ are_fields whole → (good && are_fields t) ≡ are_fields whole
+field_told s f t whole good e n g h =
+    ap (λ (b : Bool). b && are_fields t) (g ∙ rw (eq-eqb (length f) 3 n) refl)
+    ∙ sym (ap are_fields e ∙ field_then f t n) ∙ h
 
 -- fields that are left have one first, with two digits, and fields behind it
 some_fields : (l : List ℕ) → 0 < length l → T (are_fields l) → 3 ≤ length l

@@ -45,7 +45,7 @@ fn bytes(told: &[u8], n: usize, out: &mut [u8; ROOM], at: usize) -> usize
     requires { (n ≤ length told.now) × (at + n * field_characters ≤ line_room) }
     ensures { result ≡ at + n * field_characters }
 {
-    desk_print::bytes(told, n, out, at)
+    desk_print::bytes(&told[..n], out, at)
 }
 
 // Prints a number in so many bytes, high first, and tells where it ends.
