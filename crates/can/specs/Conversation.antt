@@ -73,25 +73,40 @@ selected view (Listed n) = answer Ack (Enter (step_no EraseList) (expected_for_n
 selected view (Special n) = erased_or_not (erase_all_verdict view n)
 selected view Impossible = nack BadRange
 
+-- 0x11: an address and a count
+abbrev pub read_memory : List ℕ → Decision
+read_memory d = reading (address_in d) (count_sent (drop address_bytes d))
+
+-- 0x63: a count
+abbrev pub program_protect : List ℕ → Decision
+program_protect d = answer Ack (Enter (step_no ProtectList) (count_sent d))
+
+-- 0xAC: an address and a count of two bytes
+abbrev pub firmware_crc : List ℕ → Decision
+firmware_crc d = summing (address_in d) (count_sent (drop address_bytes d))
+
+-- 0x03: a speed
+abbrev pub set_speed : List ℕ → Decision
+set_speed d = if leb (get_or d 0 0) largest_speed gives answer AckAck (SetSpeed (get_or d 0 0)) else nack BadSpeed
+
 -- a command frame's data, and what the command asks for
 unfoldable pub obeyed : View → List ℕ → Command → Decision
 obeyed view d GetCommands = telling Commands
 obeyed view d GetVersion = telling Version
 obeyed view d GetDeviceId = telling DeviceId
-obeyed view d ReadMemory = reading (address_in d) (count_sent (drop address_bytes d))
+obeyed view d ReadMemory = read_memory d
 obeyed view d Jump = jumping (address_in d)
 obeyed view d WriteMemory =
     judged (write_verdict view (address_in d) (count_sent (drop address_bytes d)))
     (answer Ack (EnterAt (step_no WriteData) (count_sent (drop address_bytes d)) (address_in d).0))
 obeyed view d Erase = selected view (selector_of (number d))
-obeyed view d ProgramProtect = answer Ack (Enter (step_no ProtectList) (count_sent d))
+obeyed view d ProgramProtect = program_protect d
 obeyed view d ProgramUnprotect = releasing
 obeyed view d AccessProtect = locking
 obeyed view d AccessUnprotect = unlocking
-obeyed view d FirmwareCrc = summing (address_in d) (count_sent (drop address_bytes d))
+obeyed view d FirmwareCrc = firmware_crc d
 obeyed view d ResetDevice = resetting
-obeyed view d Speed =
-    if leb (get_or d 0 0) largest_speed gives answer AckAck (SetSpeed (get_or d 0 0)) else nack BadSpeed
+obeyed view d Speed = set_speed d
 
 -- the ID is the command; a wrong DLC, no command, or a protected one: NACK
 unfoldable pub commanded : View → List ℕ → Option Command → Decision
