@@ -25,6 +25,7 @@ pub record Good (l : List ℕ) : Type 0 where
   pub pairs : T (are_pairs (drop 2 l))
   pub long : length l ≡ 4 + 2 * count_in l
   pub counts : least l ≤ count_in l
+  pub fits : T (fits_kind (kind_by (type_in l)) (least l) (count_in l))
 
 fits_least : (k : Option Kind) (m n : ℕ) → T (fits_kind k m n) → m ≤ n
 fits_least (Some Header) m n t = leb→le m n t
@@ -45,6 +46,7 @@ good l t =
       pairs = both_right s p (both_left (s && p) n u);
       long = eqb→eq (length l) (4 + 2 * count_in l) (both_right (s && p) n u);
       counts = fits_least (kind_by (type_in l)) (least l) (count_in l) (both_right (s && p && n) f t);
+      fits = both_right (s && p && n) f t;
     }
 
 and_false : (a : Bool) → (a && false) ≡ false
@@ -114,3 +116,16 @@ data_bytes l x said = by_test (is_good l) refl (length_pairs (data_part l) (data
         let n = length_part l (4 + 2 * address_bytes (type_in l)) (2 * (count_in l - least l)) (omega (arith, g.long, g.counts)) in
         let m = by_kind (kind_by (type_in l)) q in
         omega arith
+
+-- a bad line has none
+pub no_data : (l : List ℕ) → line_of l ≡ None → length (bytes_in (data_part l)) ≡ 0
+no_data l said = by_test (is_good l) refl said
+  where
+    by_kind : (k : Option Kind) (m n : ℕ) → T (fits_kind k m n) → option_map (line_as l) k ≡ None → ⊥
+    by_kind None m n t q = absurd t
+    by_kind (Some k) m n t q = absurd (let z : ◌≡◌ {A = ℕ} 0 1 = cc in omega arith)
+
+    by_test : (t : Bool) → is_good l ≡ t → (if t then option_map (line_as l) (kind_by (type_in l)) else None) ≡ None
+        → length (bytes_in (part (if t then 4 + 2 * address_bytes (type_in l) else 0) (if t then 2 * (count_in l - least l) else 0) l)) ≡ 0
+    by_test false e q = refl
+    by_test true e q = absurd (by_kind (kind_by (type_in l)) (least l) (count_in l) (good l (subst T (sym e) tt)).fits q)
