@@ -51,11 +51,9 @@ fn erase_sectors(flash: &mut [u8], staged: &[u8], x: usize)
         × T (all is_sector (first_numbered x staged.now)) }
     ensures { flash.new ≡ erased flash.old (first_numbered x staged.now) }
 {
-    let end = Sector::NUMBER_BYTES * x;
-    let mut j = 0;
-    while j < end {
-        erase_sector(flash, Sector::numbered(staged, j));
-        j += Sector::NUMBER_BYTES;
+    let numbers = &staged[..Sector::NUMBER_BYTES * x];
+    for number in numbers.chunks_exact(Sector::NUMBER_BYTES) {
+        erase_sector(flash, Sector::numbered(number, 0));
     }
 }
 
@@ -91,10 +89,8 @@ fn protect_only(usd: &mut [u8], staged: &[u8], x: usize)
     ensures { usd.new ≡ only_protected usd.old (first_indexed x staged.now) }
 {
     release(usd);
-    let mut i = 0;
-    while i < x {
-        protect_also(usd, Sector::indexed(staged, i));
-        i += 1;
+    for index in &staged[..x] {
+        protect_also(usd, Sector(*index as u16));
     }
 }
 
