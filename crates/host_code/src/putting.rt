@@ -52,6 +52,7 @@ pub fn put_read(offset: usize, n: usize, room: &mut [u8]) -> usize
 }
 
 // Puts the numbers of x sectors in order, from one on.
+// Kept: for (place, k) in chunks_exact_mut(2).zip(first..first + x) leaves the bytes unknown, since a proof knows only the length of what was lent as chunks.
 fn put_numbers(first: u16, x: u16, room: &mut [u8])
     requires { (first + x ≤ sectors.count) × (command_room ≤ length room.old) }
     ensures { room.new ≡ put room.old 4 (numbers_of (sectors_from (sector first) x)) }
