@@ -12,6 +12,11 @@ use Rattle.host.specs.declared.Refusal.{Refusal}
 abbrev pub led_by : List ℕ → List ℕ → List ℕ
 led_by command room = command ++ drop (length command) room
 
+-- a command is put at the front of a room, and its length is told
+pub record Puts (command before : List ℕ) (l : ℕ) (after : List ℕ) : Type 0 where
+  pub count : l ≡ length command
+  pub room : after ≡ led_by command before
+
 -- what is accepted puts a command, and tells its length and how many bytes of the range it is for; a refusal is told, and the room stays
 abbrev pub Tells : Result ⊤ Refusal → List ℕ → ℕ → List ℕ → Result Made Refusal → List ℕ → Type 0
 Tells (Ok _) command n before r after =
