@@ -1,5 +1,5 @@
 -- What the host's functions promise.
-use Rattle.std.specs.Prelude.{ℕ, ◌≡◌, Bool, true, List, [], ◌∷◌, ◌++◌, length, drop, Result, Ok, Err, ⊤}
+use Rattle.std.specs.Prelude.{ℕ, ◌≡◌, Bool, true, List, [], ◌∷◌, ◌++◌, length, drop, Result, Ok, Err, ⊤, IsOkAnd}
 use Rattle.command.specs.Says.{ack_byte}
 use Rattle.host.specs.Ranges.{carries, first_write, first_read, only_erase}
 use Rattle.host.specs.Refusals.{range_refusal, write_refusal}
@@ -8,14 +8,14 @@ use Rattle.host.specs.declared.Refusal.{Refusal}
 
 -- ---- a command in a room
 
--- a room with a command at its front; behind the command it stays
-abbrev pub led_by : List ℕ → List ℕ → List ℕ
-led_by command room = command ++ drop (length command) room
+-- a command is put at the front of a room, which stays behind it, and its length is told
+pub record Puts (command before : List ℕ) (l : ℕ) (after : List ℕ) : Type 0 where
+  pub count : l ≡ length command
+  pub room : after ≡ command ++ drop (length command) before
 
--- what is accepted puts a command, and tells its length and how many bytes of the range it is for; a refusal is told, and the room stays
+-- what is accepted puts a command, and tells for how many bytes of the range it is; a refusal is told, and the room stays
 abbrev pub Tells : Result ⊤ Refusal → List ℕ → ℕ → List ℕ → Result Made Refusal → List ℕ → Type 0
-Tells (Ok _) command n before r after =
-    (r ≡ Ok (record { length = length command; carried = n })) × (after ≡ led_by command before)
+Tells (Ok _) command n before r after = IsOkAnd r (λ (m : Made). (m.carried ≡ n) × Puts command before m.length after)
 Tells (Err e) command n before r after = (r ≡ Err e) × (after ≡ before)
 
 -- the first write command of a range of an image

@@ -15,7 +15,7 @@ use Rattle.command.specs.declared.Command.TheVariants.{ReadMemory, WriteMemory, 
 
 -- a write is 9 bytes and the data
 pub length-write : (a : ℕ) (bytes : List ℕ) → length (write_command a bytes) ≡ 8 + length bytes + 1
-length-write a bytes = simp (length-append, append-nil) (omega arith)
+length-write a bytes = simp length-append (omega arith)
 
 -- its head, its data and its checksum
 pub write_in_parts : (m : List ℕ) (a n : ℕ) (bytes : List ℕ) → length bytes ≡ n

@@ -6,7 +6,7 @@ ghost use Rattle.board.specs.Quantities.{largest_count, sector, sectors_from};
 ghost use Rattle.host.specs.Commands.{numbers_of};
 ghost use Rattle.host.specs.Ranges.{write_of, read_of, erase_of};
 ghost use Rattle.host.specs.Refusals.{command_room};
-ghost use Rattle.host.specs.Promise.{led_by};
+ghost use Rattle.host.specs.Promise.{Puts};
 
 use crate::parts::head;
 use board::Sector;
@@ -22,8 +22,7 @@ pub fn put_write(image: &[u8], offset: usize, n: usize, room: &mut [u8]) -> usiz
     requires some { (0 < n) × (n ≤ largest_count) }
     requires inside { (offset + n ≤ flash.bytes) × (length image.now ≡ flash.bytes) }
     requires room { command_room ≤ length room.old }
-    ensures count { result ≡ length (write_of image.now offset n) }
-    ensures made { room.new ≡ led_by (write_of image.now offset n) room.old }
+    ensures { Puts (write_of image.now offset n) room.old result room.new }
 {
     let less = (n - 1) as u8;
     let head = head(code::WRITE_MEMORY, offset, less);
@@ -40,8 +39,7 @@ pub fn put_read(offset: usize, n: usize, room: &mut [u8]) -> usize
     requires some { (0 < n) × (n ≤ largest_count) }
     requires inside { offset + n ≤ flash.bytes }
     requires room { command_room ≤ length room.old }
-    ensures count { result ≡ length (read_of offset n) }
-    ensures made { room.new ≡ led_by (read_of offset n) room.old }
+    ensures { Puts (read_of offset n) room.old result room.new }
 {
     let less = (n - 1) as u8;
     let head = head(code::READ_MEMORY, offset, less);
@@ -52,6 +50,7 @@ pub fn put_read(offset: usize, n: usize, room: &mut [u8]) -> usize
 }
 
 // Puts the numbers of x sectors in order, from one on.
+// Kept: for (place, k) in chunks_exact_mut(2).zip(first..first + x) leaves the bytes unknown, since a proof knows only the length of what was lent as chunks.
 fn put_numbers(first: u16, x: u16, room: &mut [u8])
     requires { (first + x ≤ sectors.count) × (command_room ≤ length room.old) }
     ensures { room.new ≡ put room.old 4 (numbers_of (sectors_from (sector first) x)) }
@@ -68,8 +67,7 @@ pub fn put_erase(offset: usize, count: usize, room: &mut [u8]) -> usize
     requires some { 0 < count }
     requires inside { offset + count ≤ flash.bytes }
     requires room { command_room ≤ length room.old }
-    ensures count { result ≡ length (erase_of offset count) }
-    ensures made { room.new ≡ led_by (erase_of offset count) room.old }
+    ensures { Puts (erase_of offset count) room.old result room.new }
 {
     let first = Sector::at(offset).0;
     let last = Sector::at(offset + count - 1).0;
