@@ -16,7 +16,7 @@ pub const FRAME_LETTER: u8 = b'C';
 pub const ID: usize = 4;
 
 // Whether characters are one space and two hex digits.
-fn is_field(field: &[u8]) -> bool
+pub fn is_field(field: &[u8]) -> bool
     ensures { result ≡ (eqb (length field.now) field_characters && are_fields field.now) }
 {
     match field {
