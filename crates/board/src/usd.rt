@@ -36,15 +36,17 @@ impl Sector {
 
 impl View {
     // What of user system data the board may look at.
+    #[tactic(auto, unfolding(crate::specs::View::view_of))]
     pub fn of(usd: &[u8]) -> View
         requires { length usd.now ≡ (extent_of Usd).bytes }
         ensures { result ≡ view_of usd.now }
     {
         let at = Board::SECTOR_BITS;
-        let bits = [usd[at], usd[at + 1], usd[at + 2], usd[at + 3]];
+        let mut bits = [0; Board::BIT_BYTES];
+        bits.copy_from_slice(&usd[at..at + Board::BIT_BYTES]);
         View {
             locked: protection_on(usd),
-            bits: bits,
+            bits,
         }
     }
 
@@ -64,14 +66,10 @@ impl View {
         requires { first.0 + n ≤ sectors.count }
         ensures { result ≡ any (write_protected self) (sectors_from first n) }
     {
-        let mut k = first.0;
-        let mut left = n;
-        while 0 < left {
+        for k in first.0..first.0 + n as u16 {
             if self.write_protected(Sector(k)) {
                 return true;
             }
-            k += 1;
-            left -= 1;
         }
         false
     }

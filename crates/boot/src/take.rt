@@ -1,7 +1,7 @@
 // The two calls that take input: refused for the first cause that holds, or decided, said and carried out.
 ghost use Rattle.std.specs.Prelude.{◌≡◌, true, T, leb, length};
-ghost use Rattle.memories.specs.Lent.{were, are};
-ghost use Rattle.memories.specs.Memories.{lengths_right};
+ghost use Rattle.memories.specs.Lent.{holds, had, has, Same};
+ghost use Rattle.memories.specs.Memories.{proper};
 ghost use Rattle.uart.specs.Conversation as UC;
 ghost use Rattle.can.specs.Conversation as CC;
 ghost use Rattle.frames.specs.Frames.{classic, is_frame};
@@ -11,17 +11,10 @@ ghost use Rattle.boot.specs.Calls.{bears};
 ghost use Rattle.boot.specs.Promise.{left, given_byte, given_frame, accepted_taken, unanswered_taken, Took};
 
 use crate::{Cause, Session, Taken};
-use board::{Board, View};
 use carriers::Carrier;
 use command::Decision;
 use command::reason::NO_REASON;
-
-// Whether flash, SRAM and USD have their lengths.
-pub fn lengths_right(flash: usize, sram: usize, usd: usize) -> bool
-    ensures { result ≡ lengths_right flash sram usd }
-{
-    (flash == Board::FLASH_BYTES) & (sram == Board::SRAM_BYTES) & (usd == Board::USD_BYTES)
-}
+use memories::Lent;
 
 impl Cause {
     // Whether the call is accepted.
@@ -68,19 +61,19 @@ impl Session {
         self.own_cause()
     }
 
-    // Why a byte is refused, if it is, given the lengths of what is lent.
-    pub(crate) fn byte_cause(self, flash: usize, sram: usize, usd: usize, room: usize) -> Cause
-        ensures { result ≡ cause_of (lengths_right flash sram usd) (leb UC.uart_room room) true self }
+    // Why a byte is refused, if it is, given the memories and the room that are lent.
+    pub(crate) fn byte_cause(self, lent: &Lent<'_>, room: usize) -> Cause
+        ensures { result ≡ cause_of (proper (holds lent.now)) (leb UC.uart_room room) true self }
     {
-        self.cause(lengths_right(flash, sram, usd), uart::has_room(room), true)
+        self.cause(lent.lengths_right(), uart::has_room(room), true)
     }
 
-    // Why a frame is refused, if it is, given the lengths of what else is lent.
-    fn frame_cause(self, frame: &[u8], flash: usize, sram: usize, usd: usize, room: usize) -> Cause
-        ensures { result ≡ cause_of (lengths_right flash sram usd) (leb CC.can_room room) (is_frame classic frame.now) self }
+    // Why a frame is refused, if it is, given the memories and the room that are lent.
+    fn frame_cause(self, frame: &[u8], lent: &Lent<'_>, room: usize) -> Cause
+        ensures { result ≡ cause_of (proper (holds lent.now)) (leb CC.can_room room) (is_frame classic frame.now) self }
     {
         self.cause(
-            lengths_right(flash, sram, usd),
+            lent.lengths_right(),
             can::has_room(room),
             frames::is_frame(frame),
         )
@@ -125,43 +118,30 @@ impl Session {
     }
 
     // Takes one UART byte, with the memories and the reply buffer that are lent.
-    pub fn take_byte(
-        self,
-        byte: u8,
-        flash: &mut [u8],
-        sram: &mut [u8],
-        usd: &mut [u8],
-        buffer: &mut [u8],
-    ) -> Taken
-        ensures { Took (given_byte self byte (were flash sram usd) buffer.old) (left result (are flash sram usd) buffer.new) }
+    pub fn take_byte(self, byte: u8, lent: &mut Lent<'_>, buffer: &mut [u8]) -> Taken
+        ensures took { Took (given_byte self byte (had lent) buffer.old) (left result (has lent) buffer.new) }
+        ensures same { Same lent }
     {
-        let cause = self.byte_cause(flash.len(), sram.len(), usd.len(), buffer.len());
+        let cause = self.byte_cause(lent, buffer.len());
         let clear = cause.accepts();
         if !clear {
             return self.unanswered(cause);
         }
         let taken = self.gather_byte(byte);
-        let decision = self.decide_byte(byte, taken, View::of(usd));
+        let decision = self.decide_byte(byte, taken, lent.view());
         let reply = decision.reply;
         let change = decision.change;
-        let length = reply::in_bytes::say(reply, flash, sram, usd, buffer);
-        memories_code::carry_out(change, &taken.staged, flash, sram, usd);
+        let length = reply::in_bytes::say(reply, lent, buffer);
+        memories_code::carry_out(change, &taken.staged, lent);
         self.accepted(Carrier::Uart, taken, decision, length)
     }
 
     // Takes one CAN frame, with the memories and the reply buffer that are lent.
-    pub fn take_frame(
-        self,
-        frame: &[u8],
-        flash: &mut [u8],
-        sram: &mut [u8],
-        usd: &mut [u8],
-        buffer: &mut [u8],
-    ) -> Taken
-        ensures { Took (given_frame self frame.now (were flash sram usd) buffer.old)
-            (left result (are flash sram usd) buffer.new) }
+    pub fn take_frame(self, frame: &[u8], lent: &mut Lent<'_>, buffer: &mut [u8]) -> Taken
+        ensures took { Took (given_frame self frame.now (had lent) buffer.old) (left result (has lent) buffer.new) }
+        ensures same { Same lent }
     {
-        let cause = self.frame_cause(frame, flash.len(), sram.len(), usd.len(), buffer.len());
+        let cause = self.frame_cause(frame, lent, buffer.len());
         let clear = cause.accepts();
         if !clear {
             return self.unanswered(cause);
@@ -169,11 +149,11 @@ impl Session {
         let id = frames::id(frame);
         let carried = frames::carried(frame);
         let taken = self.gather(carried);
-        let decision = self.decide_frame(id, carried, taken, View::of(usd));
+        let decision = self.decide_frame(id, carried, taken, lent.view());
         let reply = decision.reply;
         let change = decision.change;
-        let length = reply::in_frames::say(reply, self.bears(id), flash, sram, usd, buffer);
-        memories_code::carry_out(change, &taken.staged, flash, sram, usd);
+        let length = reply::in_frames::say(reply, self.bears(id), lent, buffer);
+        memories_code::carry_out(change, &taken.staged, lent);
         self.accepted(Carrier::Can, taken, decision, length)
     }
 }

@@ -80,7 +80,7 @@ fn tell_front(
     let taken = front.taken;
     let next = taken.session;
     let n = taken.length;
-    let end = desk_print::bytes(&buffer, n, out, begun.end);
+    let end = desk_print::bytes(&buffer[..n], out, begun.end);
     let noted = why::note(taken.reason, taken.place, notes, begun.noted);
     let told = Telling {
         session: next,

@@ -33,7 +33,7 @@ fn print_row<R: System>(rt: &R, at: usize, row: &[u8]) {
     out[2] = desk_print::digit((at / 16 % 16) as u8);
     out[3] = desk_print::digit((at % 16) as u8);
     out[4] = b':';
-    let end = desk_print::bytes(row, row.len(), &mut out, 5);
+    let end = desk_print::bytes(row, &mut out, 5);
     let _ = rt.write_all(&out[..end]);
     let _ = rt.write_all(b"\n");
 }

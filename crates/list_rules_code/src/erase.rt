@@ -6,7 +6,7 @@ ghost use Rattle.board.specs.View.{write_protected};
 ghost use Rattle.rules.specs.Rules.{selector_of, erase_verdict, erasing, erase_all_verdict};
 
 use board::{Board, LessOne, Sector, View};
-use command::{Decision, FixedReply, Next, Verdict, Why};
+use command::{Decision, FixedReply, Next, Why};
 use memories::Change;
 use rules::Selector;
 
@@ -19,6 +19,7 @@ pub const WHOLE_FLASH: u32 = 0xFFFF;
 pub const FIRST_BANK: u32 = 0xFFFE;
 
 // What two selector bytes of an erase ask for.
+#[tactic(auto, unfolding(rules::specs::Rules::selector_of))]
 pub fn selector_of(number: u16) -> Selector
     ensures { result ≡ selector_of number }
 {
@@ -71,23 +72,24 @@ fn any_numbered_protected(view: View, staged: &[u8], x: usize) -> bool
 }
 
 // Whether the x sectors whose numbers are staged may be erased.
-fn erase_verdict(view: View, staged: &[u8], x: usize) -> Verdict
+#[tactic(auto, unfolding(rules::specs::Rules::erase_verdict))]
+fn erase_verdict(view: View, staged: &[u8], x: usize) -> Result<(), Why>
     requires { numbers_bytes x ≤ length staged.now }
     ensures { result ≡ erase_verdict view (first_numbered x staged.now) }
 {
     let sectors = all_numbered(staged, x);
     if !sectors {
-        return Verdict::No(Why::BadSector);
+        return Err(Why::BadSector);
     }
     let forbidden = any_numbered_protected(view, staged, x);
     if forbidden {
-        Verdict::No(Why::WriteProtected)
-    } else {
-        Verdict::Fine
+        return Err(Why::WriteProtected);
     }
+    Ok(())
 }
 
 // An erase of the x sectors whose numbers are staged, or of none.
+#[tactic(auto, unfolding(rules::specs::Rules::erasing))]
 pub fn erase(view: View, staged: &[u8], x: usize) -> Decision
     requires { numbers_bytes x ≤ length staged.now }
     ensures { result ≡ erasing view staged.now x }
@@ -99,17 +101,17 @@ pub fn erase(view: View, staged: &[u8], x: usize) -> Decision
 }
 
 // Whether a special selector may erase all flash.
-pub fn erase_all_verdict(view: View, number: u32) -> Verdict
+#[tactic(auto, unfolding(rules::specs::Rules::erase_all_verdict))]
+pub fn erase_all_verdict(view: View, number: u32) -> Result<(), Why>
     ensures { result ≡ erase_all_verdict view number }
 {
     let all = (number == WHOLE_FLASH) | (number == FIRST_BANK);
     if !all {
-        return Verdict::No(Why::UnsupportedErase);
+        return Err(Why::UnsupportedErase);
     }
     let forbidden = view.any_write_protected(Sector(0), Board::SECTORS);
     if forbidden {
-        Verdict::No(Why::WriteProtected)
-    } else {
-        Verdict::Fine
+        return Err(Why::WriteProtected);
     }
+    Ok(())
 }

@@ -26,14 +26,14 @@ fn all_indexed(staged: &[u8], x: usize) -> bool
 }
 
 // Protection of the x sectors whose indexes are staged alone, or a refusal.
+#[tactic(auto, unfolding(rules::specs::Rules::protecting, rules::specs::Rules::protect_verdict, command::specs::Decision::judged))]
 pub fn protect(staged: &[u8], x: usize) -> Decision
     requires { x ≤ length staged.now }
     ensures { result ≡ protecting staged.now x }
 {
     let sectors = all_indexed(staged, x);
-    if sectors {
-        command::alter(FixedReply::Ack, Change::ProtectOnly(x), Next::Reset)
-    } else {
-        command::nack(Why::BadSector)
+    if !sectors {
+        return command::nack(Why::BadSector);
     }
+    command::alter(FixedReply::Ack, Change::ProtectOnly(x), Next::Reset)
 }

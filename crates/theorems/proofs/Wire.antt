@@ -7,7 +7,7 @@ use Prim.Native.Nat.{ℕ}
 use native.Mathlib.Omega.{arith}
 use lib.Dec.{T, T_not, eqb, eqb→eq}
 use lib.ListN.{take, drop}
-use Rattle.std.specs.Prelude.{if◌then◌else◌}
+use Rattle.std.specs.Prelude.{if◌then◌else◌, Some}
 use Rattle.words.proofs.Tests.{both_left, both_right, holds_true}
 use Rattle.board.specs.declared.Address.{Address}
 use Rattle.board.specs.declared.View.{View}
@@ -19,7 +19,6 @@ use Rattle.command.specs.Says.{says}
 use Rattle.command.specs.Why.{no_reason, reason_of}
 use Rattle.command.specs.declared.Command.TheVariants.{FirmwareCrc}
 use Rattle.command.specs.declared.Decision.{Decision}
-use Rattle.command.specs.declared.Lookup.TheVariants.{Known}
 use Rattle.command.specs.declared.Next.{Next}
 use Rattle.command.specs.declared.Reply.{Reply}
 use Rattle.command.specs.declared.Reply.TheVariants.{Fixed, Data, Crc}
@@ -173,7 +172,7 @@ unfolding UC.heard UC.complete
 uart_sums p view b l =
     split Sums (short p (b ∷ [])) (λ h. absurd (T_not (short p (b ∷ [])) l h)) (λ h. either Sums _ (summing_sums _ _) (refusal _))
 
-can_known : (view : View) (d : List ℕ) → Holds Sums (CC.commanded view d (Known FirmwareCrc))
+can_known : (view : View) (d : List ℕ) → Holds Sums (CC.commanded view d (Some FirmwareCrc))
 unfolding CC.commanded CC.obeyed
 can_known view d = either Sums _ (unless_either Sums view FirmwareCrc refusal (summing_sums _ _)) (refusal _)
 

@@ -3,7 +3,7 @@ use borrow.Author.Rules.{rules}
 use native.Mathlib.Omega.{arith}
 use mathlib.Core.Path.{◌≡◌, ◌∙◌}
 use lib.ListN.{length-set}
-use Prim.Native.Nat.{◌≤◌, ◌-◌, ◌^◌}
+use Prim.Native.Nat.{◌≤◌, ◌-◌}
 use Rattle.word_crc.proofs.Entries.{Growing, no_bit, bit_more, all_bits, bit_fits}
 use Rattle.word_crc.proofs.tables.fill.Statement.{statement}
 use Rattle.word_crc.proofs.tables.fill.Tie as tie
