@@ -1,50 +1,36 @@
 // Counts the bytes that a file has loaded and the sectors that hold them, by their marks.
-ghost use Rattle.std.specs.Prelude.{◌≡◌, ◌≤◌, eqb, length};
+ghost use Rattle.std.specs.Prelude.{◌≡◌, eqb, length, count_by};
 ghost use Rattle.words.specs.Lists.{count_from};
 ghost use Rattle.board.specs.Board.{flash, sectors};
 ghost use Rattle.loading.specs.Loads.{mark};
-ghost use Rattle.image_says.specs.Tally.{how_many, in_sector, tally_of};
-ghost use Rattle.image_says.specs.Tally.{one as Tally·one};
+ghost use Rattle.image_says.specs.Tally.{in_sector, tally_of};
 
 use crate::Tally;
 use board::Board;
 use loading::judging;
 
-// One where a test is passed.
-fn one(passed: bool) -> usize
-    ensures { (result ≡ Tally·one passed) × (result ≤ 1) }
-{
-    if passed { 1 } else { 0 }
-}
-
 // How many bytes are marked.
 fn bytes(touched: &[u8]) -> usize
-    ensures { (result ≡ how_many (eqb mark) touched.now) × (result ≤ length touched.now) }
+    ensures { result ≡ count_by (eqb mark) touched.now }
 {
-    let n = touched.len();
-    let mut count = 0;
-    let mut i = 0;
-    while i < n {
-        count += one(judging::MARK == touched[i]);
-        i += 1;
-    }
-    count
+    touched
+        .iter()
+        .filter(|byte| judging::MARK == **byte)
+        .count()
 }
 
 // In how many sectors some byte is marked.
 fn sectors(touched: &[u8]) -> usize
     requires { length touched.now ≡ flash.bytes }
-    ensures { result ≡ how_many (in_sector touched.now) (count_from 0 sectors.count) }
+    ensures { result ≡ count_by (in_sector touched.now) (count_from 0 sectors.count) }
 {
     let mut count = 0;
-    let mut k = 0;
-    while k < Board::SECTORS {
-        count += one(judging::any_touched(
-            touched,
-            board::quantities::bytes_in(k),
-            Board::SECTOR_BYTES,
-        ));
-        k += 1;
+    for k in 0..Board::SECTORS {
+        let first = board::quantities::bytes_in(k);
+        let marked = judging::any_touched(&touched[first..first + Board::SECTOR_BYTES]);
+        if marked {
+            count += 1;
+        }
     }
     count
 }

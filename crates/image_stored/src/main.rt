@@ -80,8 +80,7 @@ fn load<R: System>(rt: &R, name: &[u8], text: &[u8], shift: i16, bytes: usize, i
 // The shift that argument i writes; none that it writes is 0.
 fn shift_at<R: System>(rt: &R, i: usize) -> i16 {
     let mut word = io::buffer();
-    let got = files::argument(rt, i, b"SHIFT", &mut word);
-    let n = got.length;
+    let n = files::argument(rt, i, b"SHIFT", &mut word).unwrap_or(0);
     let shift = arguments::shift(&word[..n]);
     match shift {
         Shift::By(by) => by,
@@ -92,8 +91,7 @@ fn shift_at<R: System>(rt: &R, i: usize) -> i16 {
 // The number that argument i writes; none that it writes is 0.
 fn number_at<R: System>(rt: &R, i: usize) -> usize {
     let mut word = io::buffer();
-    let got = files::argument(rt, i, b"BYTES", &mut word);
-    let n = got.length;
+    let n = files::argument(rt, i, b"BYTES", &mut word).unwrap_or(0);
     let number = arguments::number(&word[..n]);
     match number {
         Number::Is(value) => value as usize,
@@ -106,14 +104,11 @@ fn load_three<R: System>(rt: &R, i: usize, image: &mut [u8])
     requires { i + 2 < 2 ^ 64 }
 {
     let mut name = io::buffer();
-    let named = files::argument(rt, i, b"FILE", &mut name);
-    let k = named.length;
+    let k = files::argument(rt, i, b"FILE", &mut name).unwrap_or(0);
     let mut text = making::text_room();
-    let got = files::read(rt, &name[..k], &mut text);
-    if got.failed {
-        return;
-    }
-    let n = got.length;
+    let Ok(n) = files::read(rt, &name[..k], &mut text) else {
+        return; // why is said
+    };
     if making::TEXT < n {
         making::too_long(rt, &name[..k]);
         return;

@@ -18,15 +18,17 @@ use Rattle.words.proofs.Over.{over_before, over_behind, over_within}
 use Rattle.records.specs.Ends.{lines_of}
 use Rattle.records.specs.Records.{line_of}
 use Rattle.records.specs.declared.Line.{Line}
-use Rattle.records.proofs.Good.{data_bytes}
-use Rattle.loading.specs.Places.{data_of, place_of}
-use Rattle.loading.specs.Loads.{mark, accepts, is_bad, is_end, untouched, cause_at, cause_of, put_at, touched_by, loaded_by, all_loaded, whole, at_line}
+use Rattle.records.specs.Digits.{bytes_in}
+use Rattle.records.specs.Records.{data_part}
+use Rattle.records.proofs.Good.{data_bytes, no_data}
+use Rattle.std.specs.Prelude.{Option, Some, None, Result, Ok, Err, is_ok, is_none}
+use Rattle.loading.specs.Places.{data_of, bytes, place_of}
+use Rattle.loading.specs.Loads.{mark, ends, right, untouched, verdict_at, verdict_of, put_at, touched_by, loaded_by, all_loaded, whole, or_line}
 use Rattle.loading.specs.Loads.{judged, answer_to, image_after}
 use Rattle.loading.specs.Says.{Among, reaches, touches, Touched, AsSaid}
-use Rattle.loading.specs.declared.Cause.TheVariants.{Accepted, WrongLength, BadLine, BadChecksum, Overlap}
-use Rattle.loading.specs.declared.Loaded.{Loaded}
-use Rattle.loading.specs.declared.Place.{Place}
-use Rattle.loading.specs.declared.Place.TheVariants.{Nothing, At, Outside}
+use Rattle.loading.specs.declared.Cause.{Cause}
+use Rattle.loading.specs.declared.Cause.TheVariants.{WrongLength, BadLine, BadChecksum, OutsideFlash, Overlap}
+use Rattle.loading.specs.declared.Refused.{Refused}
 use Rattle.loading.proofs.Places.{room}
 use Rattle.loading.proofs.Turns.{length-touched, length_loaded, length-all_loaded}
 
@@ -34,37 +36,39 @@ pub clash {ℓ} : {P : Type ℓ} (b : Bool) → b ≡ true → b ≡ false → P
 clash b t f = absurd (subst T (sym t ∙ f) tt)
 
 -- a line has as many data bytes as it says
-pub as_many : (l : List ℕ) → length (data_of l) ≡ (line_of l).bytes
+pub as_many : (l : List ℕ) → length (data_of l) ≡ bytes (line_of l)
 unfolding data_of
-as_many l = data_bytes l
+as_many l = by_line (line_of l) refl
+  where
+    by_line : (o : Option Line) → line_of l ≡ o → length (bytes_in (data_part l)) ≡ bytes o
+    by_line (Some x) e = data_bytes l x e
+    by_line None e = no_data l e
 
 -- an accepted line passes its place's test
-place_passes : (shift : ℤ) (ended : Bool) (touched : List ℕ) (x : Line) → accepts (cause_of shift ended touched x) ≡ true
-    → accepts (cause_at (place_of shift x) x.bytes touched) ≡ true
-unfolding cause_of
-place_passes shift ended touched x h = by_tests (ended || is_bad x.kind) (not x.right) h
+place_passes : (shift : ℤ) (ended : Bool) (touched : List ℕ) (x : Option Line) → is_ok (verdict_of shift ended touched x) ≡ true
+    → is_ok (verdict_at (place_of shift x) (bytes x) touched) ≡ true
+unfolding verdict_of
+place_passes shift ended touched x h = by_tests (ended || is_none x) (not (right x)) h
   where
     by_tests : (a b : Bool)
-        → accepts (if a then BadLine else if b then BadChecksum else cause_at (place_of shift x) x.bytes touched) ≡ true
-        → accepts (cause_at (place_of shift x) x.bytes touched) ≡ true
+        → is_ok (if a then Err BadLine else if b then Err BadChecksum else verdict_at (place_of shift x) (bytes x) touched) ≡ true
+        → is_ok (verdict_at (place_of shift x) (bytes x) touched) ≡ true
     by_tests true b h = clash true refl (sym h)
     by_tests false true h = clash true refl (sym h)
     by_tests false false h = h
 
 -- where all is accepted, the first line is and so are the others
 module _ (shift : ℤ) (n : ℕ) (ended : Bool) (touched l : List ℕ) (ls : List (List ℕ)) where
-  abbrev others : Loaded
-  others = judged shift (suc n) (ended || is_end (line_of l).kind) (touched_by shift (line_of l) touched) ls
+  abbrev others : Result (Unit {0}) Refused
+  others = judged shift (suc n) (ended || ends (line_of l)) (touched_by shift (line_of l) touched) ls
 
-  both_accepted : accepts (judged shift n ended touched (l ∷ ls)).cause ≡ true
-      → (accepts (cause_of shift ended touched (line_of l)) ≡ true) × (accepts others.cause ≡ true)
-  both_accepted h = by_test (accepts (cause_of shift ended touched (line_of l))) refl h
+  both_accepted : is_ok (judged shift n ended touched (l ∷ ls)) ≡ true
+      → (is_ok (verdict_of shift ended touched (line_of l)) ≡ true) × (is_ok others ≡ true)
+  both_accepted h = by_verdict (verdict_of shift ended touched (line_of l)) h
     where
-      by_test : (b : Bool) → accepts (cause_of shift ended touched (line_of l)) ≡ b
-          → accepts (if b then others else at_line (cause_of shift ended touched (line_of l)) (suc n)).cause ≡ true
-          → (accepts (cause_of shift ended touched (line_of l)) ≡ true) × (accepts others.cause ≡ true)
-      by_test true e h = (e, h)
-      by_test false e h = clash (accepts (cause_of shift ended touched (line_of l))) h e
+      by_verdict : (v : Result (Unit {0}) Cause) → is_ok (or_line v (suc n) others) ≡ true → (is_ok v ≡ true) × (is_ok others ≡ true)
+      by_verdict (Ok u) h = (refl, h)
+      by_verdict (Err c) h = clash true refl (sym h)
 
 -- neither of two tests holds
 pub either : (a b : Bool) → (a || b) ≡ false → (a ≡ false) × (b ≡ false)
@@ -128,20 +132,20 @@ lies m new at i h k = over_within newer m at new i h (omega arith)
 
 -- by its place, a line that passes leaves a marked byte, and its marks leave the mark
 module _ (n : ℕ) (touched : List ℕ) (j : ℕ) (e : get_or touched j 0 ≡ mark) where
-  byte_kept : (p : Place) (new m : List ℕ) → length new ≡ n → accepts (cause_at p n touched) ≡ true → get_or (put_at p new m) j 0 ≡ get_or m j 0
-  byte_kept Nothing new m h a = refl
-  byte_kept Outside new m h a = refl
-  byte_kept (At at) new m h a = by_marks (any (eqb mark) (part at n touched)) refl a
+  byte_kept : (p : Result (Option ℕ) Cause) (new m : List ℕ) → length new ≡ n → is_ok (verdict_at p n touched) ≡ true → get_or (put_at p new m) j 0 ≡ get_or m j 0
+  byte_kept (Ok None) new m h a = refl
+  byte_kept (Err c) new m h a = refl
+  byte_kept (Ok (Some at)) new m h a = by_marks (any (eqb mark) (part at n touched)) refl a
     where
-      by_marks : (b : Bool) → any (eqb mark) (part at n touched) ≡ b → accepts (if b then Overlap else Accepted) ≡ true
+      by_marks : (b : Bool) → any (eqb mark) (part at n touched) ≡ b → is_ok (if b then Err Overlap else Ok (tt {0})) ≡ true
           → get_or (put m at new) j 0 ≡ get_or m j 0
       by_marks true f a = clash true refl (sym a)
       by_marks false f a = leaves m new at j (rw (← h) at (apart touched at n j f e))
 
-  pub mark_kept : (p : Place) → get_or (put_at p (replicate n mark) touched) j 0 ≡ mark
-  mark_kept Nothing = e
-  mark_kept Outside = e
-  mark_kept (At at) = by_order (leb at j) refl (ltb j (at + n)) refl
+  pub mark_kept : (p : Result (Option ℕ) Cause) → get_or (put_at p (replicate n mark) touched) j 0 ≡ mark
+  mark_kept (Ok None) = e
+  mark_kept (Err c) = e
+  mark_kept (Ok (Some at)) = by_order (leb at j) refl (ltb j (at + n)) refl
     where
       r : length (replicate n mark) ≡ n
       r = length-replicate n mark
@@ -160,54 +164,54 @@ module _ (n : ℕ) (touched : List ℕ) (j : ℕ) (e : get_or touched j 0 ≡ ma
 module _ (shift : ℤ) where
   -- a byte that is touched stays, whatever lines follow
   keeps : (ls : List (List ℕ)) (n : ℕ) (ended : Bool) (touched image : List ℕ) (j : ℕ)
-      → accepts (judged shift n ended touched ls).cause ≡ true → get_or touched j 0 ≡ mark
+      → is_ok (judged shift n ended touched ls) ≡ true → get_or touched j 0 ≡ mark
       → get_or (all_loaded shift ls image) j 0 ≡ get_or image j 0
   unfolding touched_by loaded_by
   keeps [] n ended touched image j h e = refl
   keeps (l ∷ ls) n ended touched image j h e =
       let b = both_accepted shift n ended touched l ls h in
       let p = place_passes shift ended touched (line_of l) b.0 in
-      keeps ls (suc n) (ended || is_end (line_of l).kind) (touched_by shift (line_of l) touched) (loaded_by shift l image) j b.1
-      (mark_kept (line_of l).bytes touched j e (place_of shift (line_of l)))
-      ∙ byte_kept (line_of l).bytes touched j e (place_of shift (line_of l)) (data_of l) image (as_many l) p
+      keeps ls (suc n) (ended || ends (line_of l)) (touched_by shift (line_of l) touched) (loaded_by shift l image) j b.1
+      (mark_kept (bytes (line_of l)) touched j e (place_of shift (line_of l)))
+      ∙ byte_kept (bytes (line_of l)) touched j e (place_of shift (line_of l)) (data_of l) image (as_many l) p
 
   -- a line marks its bytes and lays them
-  pub marked : (l touched : List ℕ) (at : ℕ) → place_of shift (line_of l) ≡ At at → length touched ≡ 32768 → (i : ℕ) → i < length (data_of l)
+  pub marked : (l touched : List ℕ) (at : ℕ) → place_of shift (line_of l) ≡ Ok (Some at) → length touched ≡ 32768 → (i : ℕ) → i < length (data_of l)
       → get_or (touched_by shift (line_of l) touched) (at + i) 0 ≡ mark
   unfolding touched_by
   marked l touched at p s i k =
       let r = room shift (line_of l) at p in
       let n = as_many l in
-      let c = length-replicate (line_of l).bytes mark in
-      rw p (lies touched (replicate (line_of l).bytes mark) at i (omega arith) (omega arith))
-      ∙ get_or-replicate (line_of l).bytes i mark 0 (omega arith)
+      let c = length-replicate (bytes (line_of l)) mark in
+      rw p (lies touched (replicate (bytes (line_of l)) mark) at i (omega arith) (omega arith))
+      ∙ get_or-replicate (bytes (line_of l)) i mark 0 (omega arith)
 
-  laid : (l image : List ℕ) (at : ℕ) → place_of shift (line_of l) ≡ At at → length image ≡ 32768 → (i : ℕ) → i < length (data_of l)
+  laid : (l image : List ℕ) (at : ℕ) → place_of shift (line_of l) ≡ Ok (Some at) → length image ≡ 32768 → (i : ℕ) → i < length (data_of l)
       → get_or (loaded_by shift l image) (at + i) 0 ≡ get_or (data_of l) i 0
   unfolding loaded_by
   laid l image at p t i k = let r = room shift (line_of l) at p in let n = as_many l in rw p (lies image (data_of l) at i k (omega arith))
 
   -- the bytes of each line stand where it says
   stand : (ls : List (List ℕ)) (n : ℕ) (ended : Bool) (touched image : List ℕ)
-      → accepts (judged shift n ended touched ls).cause ≡ true → length touched ≡ 32768 → length image ≡ 32768
-      → (l : List ℕ) → Among l ls → (at : ℕ) → place_of shift (line_of l) ≡ At at → (i : ℕ) → i < length (data_of l)
+      → is_ok (judged shift n ended touched ls) ≡ true → length touched ≡ 32768 → length image ≡ 32768
+      → (l : List ℕ) → Among l ls → (at : ℕ) → place_of shift (line_of l) ≡ Ok (Some at) → (i : ℕ) → i < length (data_of l)
       → get_or (all_loaded shift ls image) (at + i) 0 ≡ get_or (data_of l) i 0
   stand [] n ended touched image h s t l a at p i k = absurd a
   stand (m ∷ ls) n ended touched image h s t l (inr a) at p i k =
-      stand ls (suc n) (ended || is_end (line_of m).kind) (touched_by shift (line_of m) touched) (loaded_by shift m image)
+      stand ls (suc n) (ended || ends (line_of m)) (touched_by shift (line_of m) touched) (loaded_by shift m image)
       (both_accepted shift n ended touched m ls h).1 (length-touched shift (line_of m) touched ∙ s) (length_loaded shift m image ∙ t) l a at p i k
   stand (m ∷ ls) n ended touched image h s t l (inl e) at p i k =
-      keeps ls (suc n) (ended || is_end (line_of m).kind) (touched_by shift (line_of m) touched) (loaded_by shift m image) (at + i)
+      keeps ls (suc n) (ended || ends (line_of m)) (touched_by shift (line_of m) touched) (loaded_by shift m image) (at + i)
       (both_accepted shift n ended touched m ls h).1
       (subst (λ (x : List ℕ). get_or (touched_by shift (line_of x) touched) (at + i) 0 ≡ mark) e (marked l touched at p s i k))
       ∙ subst (λ (x : List ℕ). get_or (loaded_by shift x image) (at + i) 0 ≡ get_or (data_of l) i 0) e (laid l image at p t i k)
 
   -- no line's data lie outside
-  within_flash : (ls : List (List ℕ)) (n : ℕ) (ended : Bool) (touched : List ℕ) → accepts (judged shift n ended touched ls).cause ≡ true
-      → (l : List ℕ) → Among l ls → place_of shift (line_of l) ≡ Outside → ⊥
+  within_flash : (ls : List (List ℕ)) (n : ℕ) (ended : Bool) (touched : List ℕ) → is_ok (judged shift n ended touched ls) ≡ true
+      → (l : List ℕ) → Among l ls → place_of shift (line_of l) ≡ Err OutsideFlash → ⊥
   within_flash [] n ended touched h l a p = a
   within_flash (m ∷ ls) n ended touched h l (inr a) p =
-      within_flash ls (suc n) (ended || is_end (line_of m).kind) (touched_by shift (line_of m) touched) (both_accepted shift n ended touched m ls h).1 l a p
+      within_flash ls (suc n) (ended || ends (line_of m)) (touched_by shift (line_of m) touched) (both_accepted shift n ended touched m ls h).1 l a p
   within_flash (m ∷ ls) n ended touched h l (inl e) p =
       let c = place_passes shift ended touched (line_of m) (both_accepted shift n ended touched m ls h).0 in
       clash true refl (sym (rw (← e, p) at c))
@@ -218,12 +222,12 @@ module _ (shift : ℤ) where
   unfolding loaded_by
   stay [] image j f = refl
   stay (l ∷ ls) image j f =
-      stay ls (loaded_by shift l image) j (λ k a. f k (inr a)) ∙ by_place (place_of shift (line_of l)) (line_of l).bytes (as_many l) (f l (inl refl))
+      stay ls (loaded_by shift l image) j (λ k a. f k (inr a)) ∙ by_place (place_of shift (line_of l)) (bytes (line_of l)) (as_many l) (f l (inl refl))
     where
-      by_place : (p : Place) (n : ℕ) → length (data_of l) ≡ n → reaches p n j ≡ false → get_or (put_at p (data_of l) image) j 0 ≡ get_or image j 0
-      by_place Nothing n e g = refl
-      by_place Outside n e g = refl
-      by_place (At at) n e g = leaves image (data_of l) at j (rw (← e) at (beside at n j g))
+      by_place : (p : Result (Option ℕ) Cause) (n : ℕ) → length (data_of l) ≡ n → reaches p n j ≡ false → get_or (put_at p (data_of l) image) j 0 ≡ get_or image j 0
+      by_place (Ok None) n e g = refl
+      by_place (Err c) n e g = refl
+      by_place (Ok (Some at)) n e g = leaves image (data_of l) at j (rw (← e) at (beside at n j g))
 
 -- a line that does not touch a byte that none touches
 none_touches : (shift : ℤ) (ls : List (List ℕ)) (j : ℕ) → (Touched shift ls j → ⊥) → (l : List ℕ) → Among l ls → touches shift l j ≡ false
@@ -234,15 +238,14 @@ none_touches shift ls j f l a = by_test (touches shift l j) refl
     by_test false e = e
 
 -- an accepted file leaves what it says
-pub accepted : (shift : ℤ) (text image : List ℕ) → (answer_to shift text (length image)).cause ≡ Accepted → AsSaid shift text image
+pub accepted : (shift : ℤ) (text image : List ℕ) → answer_to shift text (length image) ≡ Ok tt → AsSaid shift text image
 unfolding answer_to image_after untouched
-accepted shift text image h = by_length (eqb (length image) 32768) refl h
+accepted shift text image h = by_length (eqb (length image) 32768) refl (ap is_ok h)
   where
     by_length : (b : Bool) → eqb (length image) 32768 ≡ b
-        → (if b then judged shift 0 false untouched (lines_of text) else whole WrongLength).cause ≡ Accepted → AsSaid shift text image
-    by_length false e h = clash true refl (sym (ap accepts h))
-    by_length true e h =
-        let a = ap accepts h in
+        → is_ok (if b then judged shift 0 false untouched (lines_of text) else Err (whole WrongLength)) ≡ true → AsSaid shift text image
+    by_length false e a = clash true refl (sym a)
+    by_length true e a =
         let after : image_after shift text image ≡ all_loaded shift (lines_of text) image = rw (e, a) refl in
         record {
           inside = within_flash shift (lines_of text) 0 false untouched a;
@@ -253,6 +256,6 @@ accepted shift text image h = by_length (eqb (length image) 32768) refl h
         }
 
 -- an error leaves every byte
-pub refused : (shift : ℤ) (text image : List ℕ) → accepts (answer_to shift text (length image)).cause ≡ false → image_after shift text image ≡ image
+pub refused : (shift : ℤ) (text image : List ℕ) (r : Refused) → answer_to shift text (length image) ≡ Err r → image_after shift text image ≡ image
 unfolding image_after
-refused shift text image h = rw h refl
+refused shift text image r h = rw h refl

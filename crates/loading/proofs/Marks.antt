@@ -12,12 +12,12 @@ use borrow.Author.Tests.{leb-true, ltb-true}
 use Rattle.words.specs.Lists.{any}
 use Rattle.words.specs.Over.{within}
 use Rattle.records.specs.Records.{line_of}
-use Rattle.loading.specs.Places.{place_of}
+use Rattle.loading.specs.Places.{bytes, place_of}
 use Rattle.loading.specs.Loads.{mark, untouched, put_at, touched_by, all_touched}
 use Rattle.loading.specs.Says.{Among, reaches, touches, Touched}
 use Rattle.loading.specs.Faults.{is_ending}
-use Rattle.loading.specs.declared.Place.{Place}
-use Rattle.loading.specs.declared.Place.TheVariants.{Nothing, At, Outside}
+use Rattle.std.specs.Prelude.{Option, Some, None, Result, Ok, Err}
+use Rattle.loading.specs.declared.Cause.{Cause}
 use Rattle.loading.proofs.Turns.{length-touched}
 use Rattle.loading.proofs.Bytes.{clash, as_many, marked_there, beside, leaves, mark_kept, marked}
 
@@ -74,12 +74,12 @@ module _ (shift : ℤ) (l touched : List ℕ) (s : length touched ≡ 32768) (j 
   line_marks : touches shift l j ≡ true → get_or (touched_by shift (line_of l) touched) j 0 ≡ mark
   line_marks t = by_place (place_of shift (line_of l)) refl t
     where
-      by_place : (p : Place) → place_of shift (line_of l) ≡ p → reaches p (line_of l).bytes j ≡ true
+      by_place : (p : Result (Option ℕ) Cause) → place_of shift (line_of l) ≡ p → reaches p (bytes (line_of l)) j ≡ true
           → get_or (touched_by shift (line_of l) touched) j 0 ≡ mark
-      by_place Nothing e t = clash true refl (sym t)
-      by_place Outside e t = clash true refl (sym t)
-      by_place (At at) e t =
-          let i = inside at (line_of l).bytes j t in
+      by_place (Ok None) e t = clash true refl (sym t)
+      by_place (Err c) e t = clash true refl (sym t)
+      by_place (Ok (Some at)) e t =
+          let i = inside at (bytes (line_of l)) j t in
           let m = as_many l in
           let k : at + (j - at) ≡ j = omega arith in
           rw k at (marked shift l touched at e s (j - at) (omega arith))
@@ -87,16 +87,16 @@ module _ (shift : ℤ) (l touched : List ℕ) (s : length touched ≡ 32768) (j 
   -- and nothing else
   line_leaves : touches shift l j ≡ false → get_or (touched_by shift (line_of l) touched) j 0 ≡ get_or touched j 0
   unfolding touched_by
-  line_leaves t = by_place (place_of shift (line_of l)) (line_of l).bytes t
+  line_leaves t = by_place (place_of shift (line_of l)) (bytes (line_of l)) t
     where
-      by_place : (p : Place) (n : ℕ) → reaches p n j ≡ false → get_or (put_at p (replicate n mark) touched) j 0 ≡ get_or touched j 0
-      by_place Nothing n t = refl
-      by_place Outside n t = refl
-      by_place (At at) n t = leaves touched (replicate n mark) at j (rw (← length-replicate n mark) at (beside at n j t))
+      by_place : (p : Result (Option ℕ) Cause) (n : ℕ) → reaches p n j ≡ false → get_or (put_at p (replicate n mark) touched) j 0 ≡ get_or touched j 0
+      by_place (Ok None) n t = refl
+      by_place (Err c) n t = refl
+      by_place (Ok (Some at)) n t = leaves touched (replicate n mark) at j (rw (← length-replicate n mark) at (beside at n j t))
 
   line_keeps : get_or touched j 0 ≡ mark → get_or (touched_by shift (line_of l) touched) j 0 ≡ mark
   unfolding touched_by
-  line_keeps e = mark_kept (line_of l).bytes touched j e (place_of shift (line_of l))
+  line_keeps e = mark_kept (bytes (line_of l)) touched j e (place_of shift (line_of l))
 
 -- before the first line nothing is marked, and nothing has ended
 pub kept_none : (shift : ℤ) → Kept shift [] false untouched

@@ -11,7 +11,7 @@ use mir.Val.{Fits, SFits, of_z, to_z}
 use mir.ValLaws.{to_z-of_z, to_z_pos}
 use borrow.Author.Tests.{ltb-true, le-leb, lt-leb}
 use Rattle.loading.specs.Places.{place_at}
-use Rattle.loading.specs.declared.Place.TheVariants.{At, Outside}
+use Rattle.std.specs.Prelude.{Some, None}
 
 -- a shift is a wider number too
 pub wide : (z : ℤ) → SFits w16 z → SFits w64 z
@@ -32,7 +32,7 @@ pub added : (a : ℕ) (z : ℤ) → a < 2 ^ 32 → SFits w16 z
 added a z h f = rw (to_z-of_z w16 z f, to_z-of_z w64 z (wide z f), to_z_pos w64 a (omega arith))
 
 -- below 0 an address lies nowhere, and else it is a number
-pub negative : (z : ℤ) (n : ℕ) → lt_z z (pos 0) ≡ true → Outside ≡ place_at z n
+pub negative : (z : ℤ) (n : ℕ) → lt_z z (pos 0) ≡ true → None ≡ place_at z n
 negative (pos a) n h = absurd (omega (arith, ltb-true a 0 h))
 negative (negsuc a) n h = refl
 
@@ -42,16 +42,16 @@ natural (negsuc a) h = absurd (subst T h tt)
 
 -- where n bytes from it lie: below flash, too many for it, in it, or beyond it
 module _ (z : ℤ) (p : lt_z z (pos 0) ≡ false) (n : ℕ) where
-  pub below : nat_abs z < 134217728 → Outside ≡ place_at z n
+  pub below : nat_abs z < 134217728 → None ≡ place_at z n
   below h = rw (natural z p, lt-leb 134217728 (nat_abs z) h) refl
 
-  pub too_many : 134217728 ≤ nat_abs z → 32768 < n → Outside ≡ place_at z n
+  pub too_many : 134217728 ≤ nat_abs z → 32768 < n → None ≡ place_at z n
   too_many h k = rw (natural z p, le-leb 134217728 (nat_abs z) h, lt-leb (nat_abs z + n) 134250496 (omega arith)) refl
 
-  pub inside : 134217728 ≤ nat_abs z → n ≤ 32768 → nat_abs z - 134217728 ≤ 32768 - n → At (nat_abs z - 134217728) ≡ place_at z n
+  pub inside : 134217728 ≤ nat_abs z → n ≤ 32768 → nat_abs z - 134217728 ≤ 32768 - n → Some (nat_abs z - 134217728) ≡ place_at z n
   inside h k l = rw (natural z p, le-leb 134217728 (nat_abs z) h, le-leb (nat_abs z + n) 134250496 (omega arith)) refl
 
-  pub beyond : 134217728 ≤ nat_abs z → n ≤ 32768 → 32768 - n < nat_abs z - 134217728 → Outside ≡ place_at z n
+  pub beyond : 134217728 ≤ nat_abs z → n ≤ 32768 → 32768 - n < nat_abs z - 134217728 → None ≡ place_at z n
   beyond h k l = rw (natural z p, le-leb 134217728 (nat_abs z) h, lt-leb (nat_abs z + n) 134250496 (omega arith)) refl
 
 -- as a number it fits

@@ -4,7 +4,7 @@ ghost use Rattle.std.specs.Int.{w64};
 ghost use Rattle.std.proofs.Common.{SFits};
 ghost use Rattle.loading.specs.Places.{is_data, place_at, place_of};
 
-use crate::Place;
+use crate::Cause;
 use board::Board;
 use records::{Kind, Line};
 
@@ -12,54 +12,41 @@ use records::{Kind, Line};
 fn is_data(kind: Kind) -> bool
     ensures { result ≡ is_data kind }
 {
-    match kind {
-        Kind::Data => true,
-        _ => false,
-    }
+    matches!(kind, Kind::Data)
 }
 
 // A line's address with the shift added.
 fn shifted(address: u32, shift: i16) -> i64
     ensures { (result ≡ pos address +ℤ shift) × SFits w64 result }
 {
-    address as i64 + shift as i64
+    i64::from(address) + i64::from(shift)
 }
 
-// Where n bytes from an address go.
-fn place_at(address: i64, n: usize) -> Place
+// The offset in flash at which n bytes from an address all lie there, if they do.
+fn place_at(address: i64, n: usize) -> Option<usize>
     ensures { result ≡ place_at address n }
 {
     if address < 0 {
-        return Place::Outside;
+        return None;
     }
-    let this = address as usize;
     let first = Board::FLASH_FIRST as usize;
-    let below = this < first;
-    if below {
-        return Place::Outside;
-    }
-    let offset = this - first;
-    if Board::FLASH_BYTES < n {
-        return Place::Outside;
-    }
-    if offset <= Board::FLASH_BYTES - n {
-        Place::At(offset)
-    } else {
-        Place::Outside
-    }
+    let offset = (address as usize).checked_sub(first)?;
+    let room = Board::FLASH_BYTES.checked_sub(n)?;
+    if offset <= room { Some(offset) } else { None }
 }
 
-// Where a line's data go.
-pub fn place(read: Line, shift: i16) -> Place
-    ensures { result ≡ place_of shift read }
+// Where a line's data go; a record without data goes nowhere.
+pub fn place(read: Line, shift: i16) -> Result<Option<usize>, Cause>
+    ensures { result ≡ place_of shift (Some read) }
 {
-    let kind = read.kind;
-    let address = read.address;
     let n = read.bytes;
-    let loads = is_data(kind) & (0 < n);
-    if loads {
-        place_at(shifted(address, shift), n)
-    } else {
-        Place::Nothing
+    let loads = is_data(read.kind) & (0 < n);
+    if !loads {
+        return Ok(None);
+    }
+    let at = place_at(shifted(read.address, shift), n);
+    match at {
+        Some(at) => Ok(Some(at)),
+        None => Err(Cause::OutsideFlash),
     }
 }

@@ -9,7 +9,9 @@ use lib.Dec.{eqb, leb, ltb}
 use lib.ListN.{length, get_or, take, drop, length-drop}
 use lib.Seq.{get_or-drop, drop-drop, drop-length, take_all}
 use borrow.Author.Tests.{eq-eqb, ne_eqb, lt-ltb, le-ltb, eqb-true, eqb-false, leb-true, leb-false, ltb-true, ltb-false}
-use Rattle.std.specs.Prelude.{if◌then◌else◌}
+use mathlib.Core.Bool.{cond, not}
+use Rattle.std.specs.Prelude.{if◌then◌else◌, ◌==◌, Option, Some, None, unwrap_or, position}
+use Rattle.std.specs.List.{position_or_len}
 use Rattle.records.specs.Ends.{line_feed, carriage_return, longer, lines_of, feed_in, stop_before, stop_in, next_in, FirstFeed, Spans}
 
 -- no text has no lines
@@ -200,6 +202,41 @@ feed_found (c ∷ cs) h = by_test (feed_found cs) (eqb c line_feed) refl h
         → (if t then 0 else suc (feed_in cs)) < suc (length cs) → get_or (c ∷ cs) (if t then 0 else suc (feed_in cs)) 0 ≡ line_feed
     by_test f true p h = eqb-true c line_feed p
     by_test f false p h = f (le_of_suc-le-suc h)
+
+-- a search for the first LF finds it, and where it finds none there is none
+pub feed_place : (s : List ℕ) → position_or_len (λ (c : ℕ). c == line_feed) s ≡ feed_in s
+feed_place [] = refl
+feed_place (c ∷ cs) = by_test (feed_place cs) (eqb c line_feed)
+  where
+    by_test : position_or_len (λ (c : ℕ). c == line_feed) cs ≡ feed_in cs → (t : Bool)
+        → cond (not t) (1 + position_or_len (λ (c : ℕ). c == line_feed) cs) 0 ≡ (if t then 0 else suc (feed_in cs))
+    by_test h true = refl
+    by_test h false = rw h (omega arith)
+
+pub feed_or_end : (s : List ℕ) (o : Option ℕ) → o ≡ position (λ (c : ℕ). c == line_feed) s → (unwrap_or o (length s) ≡ feed_in s) × (unwrap_or o (length s) ≤ length s)
+feed_or_end s o e = by_test (ltb (feed_in s) (length s)) refl (rw (feed_place s) at e)
+  where
+    by_test : (t : Bool) → ltb (feed_in s) (length s) ≡ t → o ≡ cond (ltb (feed_in s) (length s)) (Some (feed_in s)) None
+        → (unwrap_or o (length s) ≡ feed_in s) × (unwrap_or o (length s) ≤ length s)
+    by_test true p q = rw (q, p) (refl, feed_there s)
+    by_test false p q =
+        let l = ltb-false (feed_in s) (length s) p in
+        let t = feed_there s in
+        rw (q, p) (omega arith, omega arith)
+
+pub fed_from : (text : List ℕ) (at : ℕ) → at ≤ length text → FirstFeed text at (at + feed_in (drop at text))
+fed_from text at h =
+    let d = length-drop at text in
+    let t = feed_there (drop at text) in
+    let s = drop at text in
+    record {
+      from = omega arith;
+      there = omega arith;
+      before = λ k a b e.
+          let m : at + (k - at) ≡ k = omega arith in
+          feed_none s (k - at) (omega arith) (get_or-drop at text (k - at) 0 ∙ rw m e);
+      found = λ p. sym (get_or-drop at text (feed_in s) 0) ∙ feed_found s (omega arith);
+    }
 
 -- line by line, by where each stops and the next begins, a text is read as its lines
 pub by_steps : (s : List ℕ) → 0 < length s → lines_of s ≡ take (stop_in s) s ∷ lines_of (drop (next_in s) s)

@@ -8,15 +8,16 @@ use lib.Dec.{T, eqb, leb→le, eqb→eq}
 use lib.ListN.{length, get_or, drop}
 use lib.Seq.{drop-drop}
 use borrow.Author.Tests.{ne_eqb}
-use Rattle.std.specs.Prelude.{if◌then◌else◌}
+use Rattle.std.specs.Prelude.{if◌then◌else◌, Option, Some, None, option_map}
 use Rattle.words.specs.Lists.{part}
 use Rattle.words.proofs.Slices.{length_part}
 use Rattle.words.proofs.Tests.{both_left, both_right}
 use Rattle.records.specs.Digits.{are_pairs, bytes_in}
-use Rattle.records.specs.Records.{letter_s, kind_by, address_bytes, type_in, count_in, least, fits_kind, is_good, bytes_of, address_in, right_in, bad_line}
-use Rattle.records.specs.Records.{line_of, data_part}
+use Rattle.records.specs.Records.{letter_s, kind_by, address_bytes, type_in, count_in, least, fits_kind, is_good}
+use Rattle.records.specs.Records.{line_as, line_of, data_part}
+use Rattle.records.specs.declared.Line.{Line}
 use Rattle.records.specs.declared.Kind.{Kind}
-use Rattle.records.specs.declared.Kind.TheVariants.{Bad, Header, Data, Count, End}
+use Rattle.records.specs.declared.Kind.TheVariants.{Header, Data, Count, End}
 use Rattle.records.proofs.Pairs.{length_pairs, pairs_drop, pairs_take}
 
 -- its pairs, its length by its count, and a count that takes in address and checksum
@@ -24,13 +25,14 @@ pub record Good (l : List ℕ) : Type 0 where
   pub pairs : T (are_pairs (drop 2 l))
   pub long : length l ≡ 4 + 2 * count_in l
   pub counts : least l ≤ count_in l
+  pub fits : T (fits_kind (kind_by (type_in l)) (least l) (count_in l))
 
-fits_least : (k : Kind) (m n : ℕ) → T (fits_kind k m n) → m ≤ n
-fits_least Header m n t = leb→le m n t
-fits_least Data m n t = leb→le m n t
-fits_least Count m n t = let e = eqb→eq n m t in omega arith
-fits_least End m n t = let e = eqb→eq n m t in omega arith
-fits_least Bad m n t = absurd t
+fits_least : (k : Option Kind) (m n : ℕ) → T (fits_kind k m n) → m ≤ n
+fits_least (Some Header) m n t = leb→le m n t
+fits_least (Some Data) m n t = leb→le m n t
+fits_least (Some Count) m n t = let e = eqb→eq n m t in omega arith
+fits_least (Some End) m n t = let e = eqb→eq n m t in omega arith
+fits_least None m n t = absurd t
 
 pub good : (l : List ℕ) → T (is_good l) → Good l
 unfolding is_good
@@ -44,6 +46,7 @@ good l t =
       pairs = both_right s p (both_left (s && p) n u);
       long = eqb→eq (length l) (4 + 2 * count_in l) (both_right (s && p) n u);
       counts = fits_least (kind_by (type_in l)) (least l) (count_in l) (both_right (s && p && n) f t);
+      fits = both_right (s && p && n) f t;
     }
 
 and_false : (a : Bool) → (a && false) ≡ false
@@ -95,16 +98,34 @@ data_pairs l = by_test (is_good l) refl
         (rw f at (rw (drop-drop (2 * k) 2 l) at (pairs_drop k (drop 2 l) g.pairs)))
 
 -- they write as many bytes as the line is said to have
-pub data_bytes : (l : List ℕ) → length (bytes_in (data_part l)) ≡ (line_of l).bytes
-data_bytes l = by_test (is_good l) refl (length_pairs (data_part l) (data_pairs l))
+pub data_bytes : (l : List ℕ) (x : Line) → line_of l ≡ Some x → length (bytes_in (data_part l)) ≡ x.bytes
+data_bytes l x said = by_test (is_good l) refl (length_pairs (data_part l) (data_pairs l)) said
   where
+    by_kind : (k : Option Kind) → option_map (line_as l) k ≡ Some x → count_in l - least l ≡ x.bytes
+    by_kind None q = absurd (let z : ◌≡◌ {A = ℕ} 0 1 = cc in omega arith)
+    by_kind (Some k) q = let e : line_as l k ≡ x = cc in ap (λ (y : Line). y.bytes) e
+
     by_test : (t : Bool) → is_good l ≡ t
         → length (part (if t then 4 + 2 * address_bytes (type_in l) else 0) (if t then 2 * (count_in l - least l) else 0) l)
         ≡ 2 * length (bytes_in (part (if t then 4 + 2 * address_bytes (type_in l) else 0) (if t then 2 * (count_in l - least l) else 0) l))
-        → length (bytes_in (part (if t then 4 + 2 * address_bytes (type_in l) else 0) (if t then 2 * (count_in l - least l) else 0) l))
-        ≡ (if t then record { kind = kind_by (type_in l); address = address_in l; bytes = count_in l - least l; right = right_in (bytes_of l) } else bad_line).bytes
-    by_test false e h = refl
-    by_test true e h =
+        → (if t then option_map (line_as l) (kind_by (type_in l)) else None) ≡ Some x
+        → length (bytes_in (part (if t then 4 + 2 * address_bytes (type_in l) else 0) (if t then 2 * (count_in l - least l) else 0) l)) ≡ x.bytes
+    by_test false e h q = absurd (let z : ◌≡◌ {A = ℕ} 0 1 = cc in omega arith)
+    by_test true e h q =
         let g = good l (subst T (sym e) tt) in
         let n = length_part l (4 + 2 * address_bytes (type_in l)) (2 * (count_in l - least l)) (omega (arith, g.long, g.counts)) in
+        let m = by_kind (kind_by (type_in l)) q in
         omega arith
+
+-- a bad line has none
+pub no_data : (l : List ℕ) → line_of l ≡ None → length (bytes_in (data_part l)) ≡ 0
+no_data l said = by_test (is_good l) refl said
+  where
+    by_kind : (k : Option Kind) (m n : ℕ) → T (fits_kind k m n) → option_map (line_as l) k ≡ None → ⊥
+    by_kind None m n t q = absurd t
+    by_kind (Some k) m n t q = absurd (let z : ◌≡◌ {A = ℕ} 0 1 = cc in omega arith)
+
+    by_test : (t : Bool) → is_good l ≡ t → (if t then option_map (line_as l) (kind_by (type_in l)) else None) ≡ None
+        → length (bytes_in (part (if t then 4 + 2 * address_bytes (type_in l) else 0) (if t then 2 * (count_in l - least l) else 0) l)) ≡ 0
+    by_test false e q = refl
+    by_test true e q = absurd (by_kind (kind_by (type_in l)) (least l) (count_in l) (good l (subst T (sym e) tt)).fits q)

@@ -140,3 +140,14 @@ pairs_take (suc k) (a ∷ b ∷ l) t =
     let e : 2 * suc k ≡ suc (suc (2 * k)) = omega arith in
     let f = both_left (is_digit a && is_digit b) (are_pairs l) t in
     rw (e, holds_true (is_digit a && is_digit b) f) (pairs_take k l (both_right (is_digit a && is_digit b) (are_pairs l) t))
+
+-- and they write the first of the bytes
+pub bytes_take : (k : ℕ) (l : List ℕ) → bytes_in (take (2 * k) l) ≡ take k (bytes_in l)
+bytes_take zero l = refl
+bytes_take (suc k) [] = rw (take-nil (2 * suc k)) refl
+bytes_take (suc k) (a ∷ []) =
+    let e : 2 * suc k ≡ suc (suc (2 * k)) = omega arith in
+    rw (e, take-nil (suc (2 * k))) refl
+bytes_take (suc k) (a ∷ b ∷ l) =
+    let e : 2 * suc k ≡ suc (suc (2 * k)) = omega arith in
+    rw e (ap (λ (m : List ℕ). (value_of a * 16 + value_of b) ∷ m) (bytes_take k l))

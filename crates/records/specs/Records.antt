@@ -1,11 +1,12 @@
 -- What one line of an S-record file is: document 02, Wish 1.
 use Rattle.std.specs.Prelude.{ℕ, ◌+◌, ◌*◌, ◌-◌, ◌%◌, Bool, false, ◌&&◌, ◌||◌, List, [], ◌∷◌, eqb, leb, length, get_or, take, drop}
+use Rattle.std.specs.Prelude.{Option, Some, None, option_map}
 use Rattle.words.specs.Bytes.{complement, number}
 use Rattle.std.specs.Prelude.{if◌then◌else◌}
 use Rattle.words.specs.Lists.{part}
 use Rattle.records.specs.Digits.{are_pairs, bytes_in}
 use Rattle.records.specs.declared.Kind.{Kind}
-use Rattle.records.specs.declared.Kind.TheVariants.{Bad, Header, Data, Count, End}
+use Rattle.records.specs.declared.Kind.TheVariants.{Header, Data, Count, End}
 use Rattle.records.specs.declared.Line.{Line}
 
 -- the characters that lines begin with: S, and a decimal digit
@@ -16,13 +17,13 @@ abbrev pub digit : ℕ → ℕ
 digit n = 0x30 + n
 
 -- what a type digit says: S1, S2, S3 carry data, S0 and S5 are noted, S7 to S9 end the file, and there is no other
-abbrev pub kind_by : ℕ → Kind
+abbrev pub kind_by : ℕ → Option Kind
 kind_by t =
-    if eqb t (digit 0) then Header
-    else if eqb t (digit 1) || eqb t (digit 2) || eqb t (digit 3) then Data
-    else if eqb t (digit 5) then Count
-    else if eqb t (digit 7) || eqb t (digit 8) || eqb t (digit 9) then End
-    else Bad
+    if eqb t (digit 0) then Some Header
+    else if eqb t (digit 1) || eqb t (digit 2) || eqb t (digit 3) then Some Data
+    else if eqb t (digit 5) then Some Count
+    else if eqb t (digit 7) || eqb t (digit 8) || eqb t (digit 9) then Some End
+    else None
 
 -- the bytes of a type's address: two for 0, 1, 5, 9; three for 2, 8; four for 3, 7
 abbrev pub address_bytes : ℕ → ℕ
@@ -32,12 +33,12 @@ address_bytes t =
     else 2
 
 -- a count leaves as many bytes for data as a kind may carry: S5 and S7 to S9 carry none, and a digit that is no type fits nothing
-abbrev pub fits_kind : Kind → ℕ → ℕ → Bool
-fits_kind Header least count = leb least count
-fits_kind Data least count = leb least count
-fits_kind Count least count = eqb count least
-fits_kind End least count = eqb count least
-fits_kind Bad least count = false
+abbrev pub fits_kind : Option Kind → ℕ → ℕ → Bool
+fits_kind (Some Header) least count = leb least count
+fits_kind (Some Data) least count = leb least count
+fits_kind (Some Count) least count = eqb count least
+fits_kind (Some End) least count = eqb count least
+fits_kind None least count = false
 
 -- the characters before the pairs, S and a type digit; and with the pair of the count
 abbrev pub head_characters : ℕ
@@ -79,12 +80,12 @@ right_in bytes = eqb (get_or bytes (get_or bytes 0 0) 0) (complement (sum (take 
 abbrev pub address_in : List ℕ → ℕ
 address_in l = number (part 1 (address_bytes (type_in l)) (bytes_of l))
 
--- a line's kind, address and number of data bytes, and whether its checksum is right
-abbrev pub bad_line : Line
-bad_line = record { kind = Bad; address = 0; bytes = 0; right = false }
+-- a line's kind, address and number of data bytes, and whether its checksum is right; none of a bad line
+abbrev pub line_as : List ℕ → Kind → Line
+line_as l kind = record { kind = kind; address = address_in l; bytes = count_in l - least l; right = right_in (bytes_of l) }
 
-abbrev pub line_of : List ℕ → Line
-line_of l = if is_good l then record { kind = kind_by (type_in l); address = address_in l; bytes = count_in l - least l; right = right_in (bytes_of l) } else bad_line
+abbrev pub line_of : List ℕ → Option Line
+line_of l = if is_good l then option_map (line_as l) (kind_by (type_in l)) else None
 
 -- the hex digits of a line's data: where they begin, and how many they are; none of a bad line
 abbrev pub data_at : List ℕ → ℕ

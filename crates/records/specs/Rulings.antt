@@ -1,33 +1,33 @@
 -- What lines and line ends give, in the characters of public examples: document 02, Wish 1.
-use Rattle.std.specs.Prelude.{◌≡◌, true, false, List, [], ◌∷◌, ◌++◌, map, ℕ, ◌≤◌, ◌<◌, length, take, drop, replicate}
+use Rattle.std.specs.Prelude.{◌≡◌, true, false, List, [], ◌∷◌, ◌++◌, map, ℕ, ◌≤◌, ◌<◌, length, take, drop, replicate, Some, None}
 use Rattle.words.specs.Texts.{characters}
 use Rattle.records.specs.Digits.{bytes_in}
 use Rattle.records.specs.Ends.{lines_of, stop_in, next_in}
-use Rattle.records.specs.Records.{digit, is_good, bad_line, line_of, data_part}
+use Rattle.records.specs.Records.{digit, is_good, line_of, data_part}
 use Rattle.records.specs.declared.Kind.TheVariants.{Header, Data, Count, End}
 
 -- what lines say
 pub record Lines : Type 0 where
   -- S1, S2 and S3 carry data, behind an address of two, three and four bytes
-  pub two : line_of (characters "S1137AF00A0A0D0000000000000000000000000061") ≡ record { kind = Data; address = 0x7AF0; bytes = 16; right = true }
-  pub three : line_of (characters "S205012345AAE7") ≡ record { kind = Data; address = 0x012345; bytes = 1; right = true }
-  pub four : line_of (characters "S307080000001234AA") ≡ record { kind = Data; address = 0x08000000; bytes = 2; right = true }
+  pub two : line_of (characters "S1137AF00A0A0D0000000000000000000000000061") ≡ Some record { kind = Data; address = 0x7AF0; bytes = 16; right = true }
+  pub three : line_of (characters "S205012345AAE7") ≡ Some record { kind = Data; address = 0x012345; bytes = 1; right = true }
+  pub four : line_of (characters "S307080000001234AA") ≡ Some record { kind = Data; address = 0x08000000; bytes = 2; right = true }
   -- S0 and S5 are noted
-  pub header : line_of (characters "S00600004844521B") ≡ record { kind = Header; address = 0; bytes = 3; right = true }
-  pub number : line_of (characters "S5030003F9") ≡ record { kind = Count; address = 3; bytes = 0; right = true }
+  pub header : line_of (characters "S00600004844521B") ≡ Some record { kind = Header; address = 0; bytes = 3; right = true }
+  pub number : line_of (characters "S5030003F9") ≡ Some record { kind = Count; address = 3; bytes = 0; right = true }
   -- S7, S8 and S9 end the file
-  pub seven : line_of (characters "S70508000000F2") ≡ record { kind = End; address = 0x08000000; bytes = 0; right = true }
-  pub eight : line_of (characters "S80401234592") ≡ record { kind = End; address = 0x012345; bytes = 0; right = true }
-  pub nine : line_of (characters "S9030000FC") ≡ record { kind = End; address = 0; bytes = 0; right = true }
+  pub seven : line_of (characters "S70508000000F2") ≡ Some record { kind = End; address = 0x08000000; bytes = 0; right = true }
+  pub eight : line_of (characters "S80401234592") ≡ Some record { kind = End; address = 0x012345; bytes = 0; right = true }
+  pub nine : line_of (characters "S9030000FC") ≡ Some record { kind = End; address = 0; bytes = 0; right = true }
   -- digits in either case, mixed too, write the same
   pub mixed : line_of (characters "S1137aF00a0A0d0000000000000000000000000061") ≡ line_of (characters "S1137AF00A0A0D0000000000000000000000000061")
   -- a line whose checksum is wrong is not bad
-  pub wrong : line_of (characters "S9030000FB") ≡ record { kind = End; address = 0; bytes = 0; right = false }
+  pub wrong : line_of (characters "S9030000FB") ≡ Some record { kind = End; address = 0; bytes = 0; right = false }
   -- a count leaves at least address and checksum, and S3 may be without data
-  pub bare : line_of (characters "S30508000000F2") ≡ record { kind = Data; address = 0x08000000; bytes = 0; right = true }
-  pub few : line_of (characters "S00200FD") ≡ bad_line
+  pub bare : line_of (characters "S30508000000F2") ≡ Some record { kind = Data; address = 0x08000000; bytes = 0; right = true }
+  pub few : line_of (characters "S00200FD") ≡ None
   -- the longest line has a count of 255, and 514 characters
-  pub longest : line_of (characters "S1FF" ++ replicate 510 (digit 0)) ≡ record { kind = Data; address = 0; bytes = 252; right = true }
+  pub longest : line_of (characters "S1FF" ++ replicate 510 (digit 0)) ≡ Some record { kind = Data; address = 0; bytes = 252; right = true }
   pub longest_length : length (characters "S1FF" ++ replicate 510 (digit 0)) ≡ 514
   -- no other line is good: a small s, types 4 and 6, S9 and S5 with data, a count too small and too large for the line, half a pair, no digit
   pub bad : map (λ t. is_good (characters t))

@@ -1,5 +1,5 @@
 // Hex digits, pairs of them, and the bytes that they write.
-ghost use Rattle.std.specs.Prelude.{◌≡◌, ◌+◌, ◌*◌, ◌%◌, ◌≤◌, ◌<◌, T, length, get_or, take};
+ghost use Rattle.std.specs.Prelude.{◌≡◌, ◌+◌, ◌*◌, ◌%◌, ◌<◌, T, length, get_or};
 ghost use Rattle.records.specs.Digits.{is_digit, value_of, are_pairs, bytes_in};
 ghost use Rattle.records.specs.Records.{sum};
 
@@ -7,7 +7,7 @@ ghost use Rattle.records.specs.Records.{sum};
 fn is_digit(c: u8) -> bool
     ensures { result ≡ is_digit c }
 {
-    ((b'0' <= c) & (c <= b'9')) | ((b'A' <= c) & (c <= b'F')) | ((b'a' <= c) & (c <= b'f'))
+    matches!(c, b'0'..=b'9' | b'A'..=b'F' | b'a'..=b'f')
 }
 
 // The value of a hex digit: what its low four bits count, and nine more for a letter, whose code is 64 or more.
@@ -22,14 +22,8 @@ fn value(c: u8) -> u8
 pub fn are_pairs(digits: &[u8]) -> bool
     ensures { result ≡ are_pairs digits.now }
 {
-    let n = digits.len();
-    let mut good = n % 2 == 0;
-    let mut i = 0;
-    while i < n {
-        good = good & is_digit(digits[i]);
-        i += 1;
-    }
-    good
+    let even = digits.len() % 2 == 0;
+    even && digits.iter().all(|c| is_digit(*c))
 }
 
 // Byte i of those that pairs write.
@@ -40,16 +34,14 @@ pub fn byte_at(digits: &[u8], i: usize) -> u8
     value(digits[2 * i]) * 16 + value(digits[2 * i + 1])
 }
 
-// The low byte of the sum of the first n bytes that pairs write.
-pub fn sum_of(digits: &[u8], n: usize) -> u8
-    requires { T (are_pairs digits.now) × (2 * n ≤ length digits.now) × (n < 256) }
-    ensures { result ≡ sum (take n (bytes_in digits.now)) % 256 }
+// The low byte of the sum of the bytes that at most 255 pairs write.
+pub fn sum_of(digits: &[u8]) -> u8
+    requires { T (are_pairs digits.now) × (length digits.now < 512) }
+    ensures { result ≡ sum (bytes_in digits.now) % 256 }
 {
     let mut total: u32 = 0;
-    let mut i = 0;
-    while i < n {
-        total += byte_at(digits, i) as u32;
-        i += 1;
+    for i in 0..digits.len() / 2 {
+        total += u32::from(byte_at(digits, i));
     }
     (total % 256) as u8
 }

@@ -1,6 +1,6 @@
 // Where the lines of a text end.
-ghost use Rattle.std.specs.Prelude.{◌≤◌, ◌<◌, length};
-ghost use Rattle.records.specs.Ends.{FirstFeed, Spans};
+ghost use Rattle.std.specs.Prelude.{◌≡◌, ◌==◌, ◌≤◌, ◌<◌, length, position};
+ghost use Rattle.records.specs.Ends.{line_feed, feed_in, FirstFeed, Spans};
 
 const LINE_FEED: u8 = b'\n';
 
@@ -13,20 +13,26 @@ pub struct Span {
     pub next: usize,
 }
 
+// The place of the first LF, if there is one.
+fn first_feed(text: &[u8]) -> Option<usize>
+    ensures { result ≡ position (λ c. c == line_feed) text.now }
+{
+    text.iter().position(|c| *c == LINE_FEED)
+}
+
+// How many characters stand before the first LF, or in all where there is none.
+fn feed_in(text: &[u8]) -> usize
+    ensures { (result ≡ feed_in text.now) × (result ≤ length text.now) }
+{
+    first_feed(text).unwrap_or(text.len())
+}
+
 // The place of the first LF from a place on, or the text's end.
 fn feed_from(text: &[u8], at: usize) -> usize
     requires { at ≤ length text.now }
     ensures { FirstFeed text.now at result }
 {
-    let n = text.len();
-    let mut i = at;
-    while i < n {
-        if text[i] == LINE_FEED {
-            return i;
-        }
-        i += 1;
-    }
-    i
+    at + feed_in(&text[at..])
 }
 
 // The line that begins at a place.

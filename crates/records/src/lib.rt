@@ -6,17 +6,16 @@ pub mod ends;
 pub mod held;
 pub mod reading;
 
-// What a line is.
+// What a line is that is not bad.
 #[derive(Clone, Copy)]
 pub enum Kind {
-    Bad,
     Header,
     Data,
     Count,
     End,
 }
 
-// What a line says beside its data: its kind, its address, how many data bytes it has, and whether its checksum is right.
+// What a line that is not bad says beside its data: its kind, its address, how many data bytes it has, and whether its checksum is right.
 #[derive(Clone, Copy)]
 pub struct Line {
     pub kind: Kind,

@@ -12,24 +12,16 @@ const HEAD: usize = 2;
 
 const COUNTED_FROM: usize = HEAD + 2;
 
-// What a type digit says.
-fn kind_by(t: u8) -> Kind
+// What a type digit says; none where it is no type.
+fn kind_by(t: u8) -> Option<Kind>
     ensures { result ≡ kind_by t }
 {
-    if t == b'0' {
-        return Kind::Header;
-    }
-    if (t == b'1') | (t == b'2') | (t == b'3') {
-        return Kind::Data;
-    }
-    let counts = t == b'5';
-    if counts {
-        return Kind::Count;
-    }
-    if (t == b'7') | (t == b'8') | (t == b'9') {
-        Kind::End
-    } else {
-        Kind::Bad
+    match t {
+        b'0' => Some(Kind::Header),
+        b'1' | b'2' | b'3' => Some(Kind::Data),
+        b'5' => Some(Kind::Count),
+        b'7' | b'8' | b'9' => Some(Kind::End),
+        _ => None,
     }
 }
 
@@ -37,20 +29,21 @@ fn kind_by(t: u8) -> Kind
 fn address_bytes(t: u8) -> usize
     ensures { (result ≡ address_bytes t) × (2 ≤ result) × (result ≤ 4) }
 {
-    if (t == b'2') | (t == b'8') {
-        return 3;
+    match t {
+        b'2' | b'8' => 3,
+        b'3' | b'7' => 4,
+        _ => 2,
     }
-    if (t == b'3') | (t == b'7') { 4 } else { 2 }
 }
 
 // Whether a count leaves as many bytes for data as a kind may carry.
-fn fits_kind(kind: Kind, least: usize, count: usize) -> bool
+fn fits_kind(kind: Option<Kind>, least: usize, count: usize) -> bool
     ensures { result ≡ fits_kind kind least count }
 {
     match kind {
-        Kind::Header | Kind::Data => least <= count,
-        Kind::Count | Kind::End => count == least,
-        Kind::Bad => false,
+        Some(Kind::Header | Kind::Data) => least <= count,
+        Some(Kind::Count | Kind::End) => count == least,
+        None => false,
     }
 }
 
@@ -68,7 +61,7 @@ pub fn is_good(line: &[u8]) -> bool
         return false;
     }
     let t = line[1];
-    let count = digits::byte_at(rest, 0) as usize;
+    let count = usize::from(digits::byte_at(rest, 0));
     (n == COUNTED_FROM + 2 * count) & fits_kind(kind_by(t), address_bytes(t) + 1, count)
 }
 
@@ -94,33 +87,30 @@ fn is_right(rest: &[u8]) -> bool
     requires { T (are_pairs rest.now) × (2 * get_or (bytes_in rest.now) 0 0 + 2 ≤ length rest.now) }
     ensures { result ≡ right_in (bytes_in rest.now) }
 {
-    let count = digits::byte_at(rest, 0) as usize;
-    words::is_complement(digits::sum_of(rest, count), digits::byte_at(rest, count))
+    let count = usize::from(digits::byte_at(rest, 0));
+    let summed = &rest[..2 * count];
+    words::is_complement(digits::sum_of(summed), digits::byte_at(rest, count))
 }
 
-// What a line says beside its data.
-pub fn read(line: &[u8]) -> Line
+// What a line says beside its data; none where it is bad.
+pub fn read(line: &[u8]) -> Option<Line>
     ensures { result ≡ line_of line.now }
 {
     let good = is_good(line);
     if !good {
-        return Line {
-            kind: Kind::Bad,
-            address: 0,
-            bytes: 0,
-            right: false,
-        };
+        return None;
     }
     let t = line[1];
+    let kind = kind_by(t)?;
     let rest = &line[HEAD..];
     let wide = address_bytes(t);
-    let count = digits::byte_at(rest, 0) as usize;
-    Line {
-        kind: kind_by(t),
+    let count = usize::from(digits::byte_at(rest, 0));
+    Some(Line {
+        kind,
         address: address(rest, wide),
         bytes: count - (wide + 1),
         right: is_right(rest),
-    }
+    })
 }
 
 // The hex digits of the data of a line that is not bad, as a part of it: behind the address, before the checksum.

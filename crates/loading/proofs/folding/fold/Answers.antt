@@ -10,12 +10,12 @@ returns-then-ended-clause-answer c =
     rw (to_z-of_z w16 c.args.shift c.ranges.shift, e, c.if-ended.true) at c.loop-at.invariant.4
 
 pub returns-then-ended-clause-marks : goal.returns-then-ended-clause-marks
-returns-then-ended-clause-marks c = λ t.
+returns-then-ended-clause-marks c =
     let e = no_line c.args.text.now c.loop-at.at (omega arith) in
     rw (to_z-of_z w16 c.args.shift c.ranges.shift, e) at c.loop-at.invariant.5
 
 pub returns-then-ended-clause-image : goal.returns-then-ended-clause-image
-returns-then-ended-clause-image c = λ t.
+returns-then-ended-clause-image c =
     let e = no_line c.args.text.now c.loop-at.at (omega arith) in
     rw (to_z-of_z w16 c.args.shift c.ranges.shift, e) at c.loop-at.invariant.6
 

@@ -11,7 +11,7 @@ first-faulty shift text n = record {
   named = line_first shift text n;
   decides = first_decides shift text n;
   no_end = (endless_sound shift text n, sound_endless shift text n);
-  unnamed = (no_line_cause shift text n, cause_no_line shift text n);
+  unnamed = λ r a. (no_line_cause shift text n r a, cause_no_line shift text n r a);
 }
 
 pub first_faulty_spec : {M : Type 1} → statement M

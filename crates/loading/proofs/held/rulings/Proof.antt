@@ -3,13 +3,13 @@ use mathlib.Core.Path.{refl}
 use Rattle.records.specs.Ends.{lines_of}
 use Rattle.records.specs.Records.{is_good}
 use Rattle.loading.specs.Places.{data_of, place_of}
-use Rattle.loading.specs.Loads.{untouched, cause_of, touched_by, loaded_by, answer_to, image_after}
+use Rattle.loading.specs.Loads.{untouched, verdict_of, touched_by, loaded_by, answer_to, image_after}
 use Rattle.loading.specs.Rulings.{Rulings}
 use Rattle.loading.proofs.held.rulings.Statement.{statement}
 use Rattle.loading.proofs.held.rulings.Tie as tie
 
 ruled : Rulings
-unfolding lines_of is_good data_of place_of untouched cause_of touched_by loaded_by answer_to image_after
+unfolding lines_of is_good data_of place_of untouched verdict_of touched_by loaded_by answer_to image_after
 ruled = record {
   compiler = refl;
   empty = refl;

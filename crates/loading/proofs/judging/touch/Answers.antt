@@ -1,5 +1,5 @@
 -- By the line's place; one in flash has room for the data.
-use Rattle.std.proofs.Common.{refl, sym, arith, w16}
+use Rattle.std.proofs.Common.{Some, Ok, refl, sym, ◌∙◌, ap, arith, w16}
 use Rattle.std.proofs.lemmas.Int.{to_z-of_z}
 use Rattle.loading.specs.Loads.{touched_by}
 use Rattle.loading.proofs.Places.{room}
@@ -7,23 +7,24 @@ use Rattle.loading.proofs.judging.touch.Goals as goal
 
 pub fill-requires : goal.fill-requires
 fill-requires c =
-    let r = room c.args.shift c.args.read c.in-At.at (sym (rw (to_z-of_z w16 c.args.shift c.ranges.shift) at c.in-At.ensures)) in
+    let e = rw (to_z-of_z w16 c.args.shift c.ranges.shift) at c.place.ensures in
+    let r = room c.args.shift (Some c.args.read) c.in-Ok-Some.at (sym e ∙ c.in-Ok-Some.is ∙ ap Ok c.in-Ok-Some.field-0-is) in
     omega arith
 
-pub returns-in-At : goal.returns-in-At
+pub returns-in-Ok-Some : goal.returns-in-Ok-Some
 unfolding touched_by
-returns-in-At c =
-    let asked = rw (to_z-of_z w16 c.args.shift c.ranges.shift) at c.place-place.ensures in
-    rw (← asked, c.in-At.is) c.fill.ensures
+returns-in-Ok-Some c =
+    let e = rw (to_z-of_z w16 c.args.shift c.ranges.shift) at c.place.ensures in
+    rw (← e, c.in-Ok-Some.is, c.in-Ok-Some.field-0-is) c.fill.ensures
 
-pub returns-in-Nothing : goal.returns-in-Nothing
+pub returns-in-Ok-None : goal.returns-in-Ok-None
 unfolding touched_by
-returns-in-Nothing c =
-    let asked = rw (to_z-of_z w16 c.args.shift c.ranges.shift) at c.place-place.ensures in
-    rw (← asked, c.in-Nothing.is) refl
+returns-in-Ok-None c =
+    let e = rw (to_z-of_z w16 c.args.shift c.ranges.shift) at c.place.ensures in
+    rw (← e, c.in-Ok-None.is, c.in-Ok-None.field-0-is) refl
 
-pub returns-in-Outside : goal.returns-in-Outside
+pub returns-in-Err : goal.returns-in-Err
 unfolding touched_by
-returns-in-Outside c =
-    let asked = rw (to_z-of_z w16 c.args.shift c.ranges.shift) at c.place-place.ensures in
-    rw (← asked, c.in-Outside.is) refl
+returns-in-Err c =
+    let e = rw (to_z-of_z w16 c.args.shift c.ranges.shift) at c.place.ensures in
+    rw (← e, c.in-Err.is) refl

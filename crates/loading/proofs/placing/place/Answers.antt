@@ -1,17 +1,26 @@
 -- The test that the code makes is the definition's, and both signed numbers are read back as they were written.
-use Rattle.std.proofs.Common.{◌∙◌, w16, w64}
+use Rattle.std.proofs.Common.{sym, ◌∙◌, w16, w64}
 use Rattle.std.proofs.lemmas.Int.{to_z-of_z}
 use Rattle.loading.proofs.Places.{placed, unplaced}
 use Rattle.loading.proofs.placing.place.Goals as goal
 
-pub returns-then-loads : goal.returns-then-loads
-returns-then-loads c =
-    c.place_at.ensures
-    ∙ rw (
+pub returns-then-not-loads : goal.returns-then-not-loads
+returns-then-not-loads c = unplaced c.args.shift c.args.read (rw c.is_data.ensures at c.if-not-loads.true)
+
+pub returns-in-Some : goal.returns-in-Some
+returns-in-Some c =
+    let e = rw (
       to_z-of_z w64 c.shifted.result c.shifted.ensures.1,
       c.shifted.ensures.0,
       to_z-of_z w16 c.args.shift c.ranges.shift,
-    ) (placed c.args.shift c.args.read (rw c.is_data.ensures at c.if-loads.true))
+    ) at c.place_at-at.ensures in
+    rw (sym e ∙ c.in-Some.is) at (placed c.args.shift c.args.read (rw c.is_data.ensures at c.if-not-loads.false))
 
-pub returns-else-loads : goal.returns-else-loads
-returns-else-loads c = unplaced c.args.shift c.args.read (rw c.is_data.ensures at c.if-loads.false)
+pub returns-in-None : goal.returns-in-None
+returns-in-None c =
+    let e = rw (
+      to_z-of_z w64 c.shifted.result c.shifted.ensures.1,
+      c.shifted.ensures.0,
+      to_z-of_z w16 c.args.shift c.ranges.shift,
+    ) at c.place_at-at.ensures in
+    rw (sym e ∙ c.in-None.is) at (placed c.args.shift c.args.read (rw c.is_data.ensures at c.if-not-loads.false))

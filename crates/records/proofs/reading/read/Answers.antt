@@ -17,8 +17,8 @@ slice_bounds-rest-count c = let g = known c.args.line.now (sym c.is_good-good.en
 pub slice_bounds-rest-start : goal.slice_bounds-rest-start
 slice_bounds-rest-start c = let g = known c.args.line.now (sym c.is_good-good.ensures ∙ c.if-not-good.false) in omega (arith, g.long)
 
-pub byte_at-count-requires : goal.byte_at-count-requires
-byte_at-count-requires c =
+pub byte_at-requires : goal.byte_at-requires
+byte_at-requires c =
     let l = c.args.line.now in
     let g = known l (sym c.is_good-good.ensures ∙ c.if-not-good.false) in
     rw (to_the_end 2 l) (g.pairs, simp length-drop (omega (arith, g.long)))
@@ -35,8 +35,8 @@ pub overflow_sub-result : goal.overflow_sub-result
 overflow_sub-result c =
     let l = c.args.line.now in
     let g = known l (sym c.is_good-good.ensures ∙ c.if-not-good.false) in
-    let b = rw (to_the_end 2 l) at c.byte_at-count.ensures.0 in
-    omega (arith, g.counts, c.address_bytes-wide.ensures.0, b)
+    let b = rw (to_the_end 2 l) at c.byte_at.ensures.0 in
+    omega (arith, g.counts, c.address_bytes-wide.ensures.0, c.from-count.ensures, b)
 
 pub is_right-requires : goal.is_right-requires
 is_right-requires c =
@@ -48,10 +48,11 @@ pub returns : goal.returns
 returns c =
     rw (
       sym c.is_good-good.ensures ∙ c.if-not-good.false,
-      c.kind_by.ensures,
+      sym c.kind_by.ensures ∙ c.in_ok-kind.was,
       c.address.ensures,
       c.is_right.ensures,
-      c.byte_at-count.ensures.0,
+      c.from-count.ensures,
+      c.byte_at.ensures.0,
       c.address_bytes-wide.ensures.0,
       to_the_end 2 c.args.line.now,
     ) refl
