@@ -227,19 +227,16 @@ fn obey(
 {
     out[at] = ANSWERED;
     let begun = Telling {
-        session: session,
+        session,
         end: at + 1,
         noted: 0,
     };
     let mut notes = [0u16; MOST_CHARACTERS];
     let told = tell_line(begun, kind, line, flash, sram, usd, out, &mut notes);
-    let next = told.session;
-    let end = told.end;
-    let noted = told.noted;
-    out[end] = LINE_FEED;
+    out[told.end] = LINE_FEED;
     Answered {
-        session: next,
-        end: why::explain_all(why, &notes[..noted], out, end + 1),
+        session: told.session,
+        end: why::explain_all(why, &notes[..told.noted], out, told.end + 1),
     }
 }
 
@@ -276,7 +273,7 @@ pub fn answer(
     let kind = line::kind(line);
     match kind {
         Kind::Other => Answered {
-            session: session,
+            session,
             end: disobey(number, out, at),
         },
         _ => obey(session, why, kind, line, flash, sram, usd, out, at),

@@ -65,23 +65,20 @@ fn end_line(
     ensures fits { result.end ≤ desk.end + answer_room desk.kept }
     ensures counts { (result.kept ≡ 0) × (result.lines ≡ desk.lines + 1) }
 {
-    let session = desk.session;
     let number = desk.lines + 1;
-    let kept = desk.kept;
     let told = desk_answers_code::answer(
-        session,
+        desk.session,
         desk.why,
         number,
-        &line[..kept],
+        &line[..desk.kept],
         flash,
         sram,
         usd,
         out,
         desk.end,
     );
-    let next = told.session;
     Desk {
-        session: next,
+        session: told.session,
         why: desk.why,
         lines: number,
         kept: 0,
@@ -110,19 +107,16 @@ fn go_on(
     ensures counts { (result.desk.kept ≡ 0) × (result.desk.lines ≤ desk.lines + 1 + result.characters) }
 {
     let next = end_line(desk, line, flash, sram, usd, out);
-    let session = next.session;
     let right = boot::take::lengths_right(flash.len(), sram.len(), usd.len());
-    let gathered = desk_passing::gather(session, rest, right);
-    let passed = gathered.session;
-    let lines = gathered.lines;
-    let end = desk_passing::nod(lines, out, next.end);
+    let gathered = desk_passing::gather(next.session, rest, right);
+    let end = desk_passing::nod(gathered.lines, out, next.end);
     Heard {
         desk: Desk {
-            session: passed,
+            session: gathered.session,
             why: next.why,
-            lines: next.lines + lines,
+            lines: next.lines + gathered.lines,
             kept: 0,
-            end: end,
+            end,
         },
         characters: gathered.characters,
     }

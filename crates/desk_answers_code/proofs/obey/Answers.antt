@@ -19,8 +19,8 @@ tell_line-told-requires c = record {
   line_in_bounds_2 = omega (arith, c.requires.line_len_bound);
 }
 
-pub bounds-out-end : goal.bounds-out-end
-bounds-out-end c =
+pub bounds-out-told : goal.bounds-out-told
+bounds-out-told c =
     let k = c.tell_line-told.auto.out ∙ length-set c.args.out.now c.args.at 62 in
     omega (arith, c.tell_line-told.ensures.fits.0, k)
 
@@ -29,8 +29,8 @@ slice_bounds-explain_all-end c =
     sym (length-take-le c.tell_line-told.result.noted c.tell_line-told.new.notes
     (omega (arith, c.tell_line-told.ensures.fits.1, c.tell_line-told.auto.notes, c.requires.line_len_bound)))
 
-pub overflow_add-end : goal.overflow_add-end
-overflow_add-end c = omega (arith, c.tell_line-told.ensures.fits.0, c.requires.line_in_bounds)
+pub overflow_add-told : goal.overflow_add-told
+overflow_add-told c = omega (arith, c.tell_line-told.ensures.fits.0, c.requires.line_in_bounds)
 
 pub explain_all-requires : goal.explain_all-requires
 explain_all-requires c =
