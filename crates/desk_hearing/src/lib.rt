@@ -50,12 +50,7 @@ fn keep(line: &mut [u8], kept: usize, character: u8) -> usize
 }
 
 // Answers the line that has begun.
-fn end_line(
-    desk: Desk,
-    line: &[u8],
-    lent: &mut Lent<'_>,
-    out: &mut [u8],
-) -> Desk
+fn end_line(desk: Desk, line: &[u8], lent: &mut Lent<'_>, out: &mut [u8]) -> Desk
     requires kept_in_bounds { desk.kept ≤ length line.now }
     requires lines_bound { desk.lines + 1 < 2 ^ 64 }
     requires kept_in_bounds_2 { desk.end + answer_room desk.kept ≤ length out.old }
@@ -85,13 +80,7 @@ fn end_line(
 }
 
 // Answers the line that has begun, and takes at once the lines behind it that write frames which are only gathered.
-fn go_on(
-    desk: Desk,
-    line: &[u8],
-    rest: &[u8],
-    lent: &mut Lent<'_>,
-    out: &mut [u8],
-) -> Heard
+fn go_on(desk: Desk, line: &[u8], rest: &[u8], lent: &mut Lent<'_>, out: &mut [u8]) -> Heard
     requires kept_in_bounds { desk.kept ≤ length line.now }
     requires rest_bound { desk.lines + 1 + length rest.now < 2 ^ 64 }
     requires rest_in_bounds { desk.end + answer_room desk.kept + length rest.now ≤ length out.old }
@@ -120,13 +109,7 @@ fn go_on(
 }
 
 // Takes characters in, and answers each line as soon as its LF comes.
-pub fn hear(
-    desk: Desk,
-    text: &[u8],
-    line: &mut [u8],
-    lent: &mut Lent<'_>,
-    out: &mut [u8],
-) -> Desk
+pub fn hear(desk: Desk, text: &[u8], line: &mut [u8], lent: &mut Lent<'_>, out: &mut [u8]) -> Desk
     requires line_len { length line.old ≡ kept_characters }
     requires kept_le_kept_characters { desk.kept ≤ kept_characters }
     requires text_bound { desk.lines + length text.now < 2 ^ 64 }
@@ -154,12 +137,7 @@ pub fn hear(
 }
 
 // Answers at the end of the input a line that has begun.
-pub fn finish(
-    desk: Desk,
-    line: &[u8],
-    lent: &mut Lent<'_>,
-    out: &mut [u8],
-) -> Desk
+pub fn finish(desk: Desk, line: &[u8], lent: &mut Lent<'_>, out: &mut [u8]) -> Desk
     requires kept_in_bounds { desk.kept ≤ length line.now }
     requires lines_bound { desk.lines + 1 < 2 ^ 64 }
     requires kept_in_bounds_2 { desk.end + answer_room desk.kept ≤ length out.old }
