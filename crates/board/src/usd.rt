@@ -23,14 +23,14 @@ impl Sector {
     pub fn bit_index(self) -> usize
         ensures { result ≡ bit_index self }
     {
-        self.0 as usize / BYTE_BITS
+        usize::from(self.0) / BYTE_BITS
     }
 
     // Which bit of that byte is this sector's.
     pub fn bit_place(self) -> usize
         ensures { result ≡ bit_place self }
     {
-        self.0 as usize % BYTE_BITS
+        usize::from(self.0) % BYTE_BITS
     }
 }
 

@@ -17,6 +17,7 @@ use board::{Board, LessOne, Sector};
 use command::{Decision, FixedReply, Next, Why, code};
 
 // The steps of the CAN conversation, idle first.
+// Kept: a type of its own beside uart::Step (d): a trait of both has only `of` and `expects`, and each body is its own table of cases.
 #[derive(Clone, Copy)]
 pub enum Step {
     Idle,
@@ -38,6 +39,7 @@ pub const LARGEST_SPEED: u8 = 3;
 pub const ROOM: usize = 363;
 
 // Whether a reply buffer of this length has the room that a reply may need.
+// Kept: twin of uart::has_room (d): one `has_room(room, length)` is `room <= length`, which is no plainer than the call.
 pub fn has_room(length: usize) -> bool
     ensures { result ≡ leb can_room length }
 {
@@ -87,9 +89,9 @@ pub fn bears(step: u8, id: u16) -> u16
     let here = Step::of(step);
     match here {
         Step::Idle => id,
-        Step::WriteData => code::WRITE_MEMORY as u16,
-        Step::EraseList => code::ERASE as u16,
-        Step::ProtectList => code::PROGRAM_PROTECT as u16,
+        Step::WriteData => u16::from(code::WRITE_MEMORY),
+        Step::EraseList => u16::from(code::ERASE),
+        Step::ProtectList => u16::from(code::PROGRAM_PROTECT),
     }
 }
 
@@ -106,7 +108,7 @@ pub fn gathering(
     ensures { result ≡
         (if not (eqb id running) || eqb dlc 0 gives nack OtherFrame else if ltb (taken + dlc) expected gives answer Silence Gather else done) }
 {
-    let other = (id != running as u16) | (dlc == 0);
+    let other = (id != u16::from(running)) | (dlc == 0);
     if other {
         return command::nack(Why::OtherFrame);
     }

@@ -25,9 +25,6 @@ const SELECTOR_OR_SPEED: usize = 2;
 // The DLC of a count alone.
 const COUNT_ONLY: usize = 1;
 
-// The largest number that a command may have: a byte's.
-const LARGEST_NUMBER: u16 = 0xFF;
-
 // Whether the DLC is the one that a command must have; the rest ignore DLC and data.
 fn dlc_fits(command: Command, dlc: usize) -> bool
     ensures { result ≡ dlc_fits command dlc }
@@ -92,7 +89,7 @@ fn selected(view: View, selector: Selector) -> Decision
             ),
         ),
         Selector::Special(number) => {
-            erased_or_not(list_rules_code::erase::erase_all_verdict(view, number as u32))
+            erased_or_not(list_rules_code::erase::erase_all_verdict(view, u32::from(number)))
         }
         Selector::Impossible => command::nack(Why::BadRange),
     }
@@ -174,11 +171,7 @@ fn obeyed(view: View, carried: &[u8], command: Command) -> Decision
 fn look_up(id: u16) -> Option<Command>
     ensures { result ≡ look_up can_commands id }
 {
-    if id <= LARGEST_NUMBER {
-        code::look_up(id as u8)
-    } else {
-        None
-    }
+    u8::try_from(id).ok().and_then(code::look_up)
 }
 
 // A command that is known, has its DLC and is not forbidden is obeyed.

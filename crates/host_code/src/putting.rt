@@ -1,4 +1,5 @@
 // Puts a command at the front of a room that is long enough for any.
+// Kept: with a struct for such a room each call would wrap and unwrap it, and each clause say `room.old.bytes.now` in place of `room.old`.
 ghost use Rattle.std.specs.Prelude.{◌≡◌, ◌+◌, ◌≤◌, ◌<◌, length};
 ghost use Rattle.words.specs.Over.{put};
 ghost use Rattle.board.specs.Board.{flash, sectors};

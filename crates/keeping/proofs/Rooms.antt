@@ -1,21 +1,21 @@
 -- Memories and the bytes that they are, one behind the other.
 use mathlib.Core.Path.{◌≡◌, refl, sym, ap, subst, ◌∙◌}
-use mathlib.Core.Bool.{Bool, true, false, ◌&&◌}
+use mathlib.Core.Bool.{Bool, true, ◌&&◌}
 use mathlib.Core.List.{List, ◌++◌}
 use Prim.Native.Nat.{ℕ, ◌+◌, ◌-◌}
 use native.Mathlib.Omega.{arith}
 use lib.Dec.{T, eqb, eqb→eq}
 use lib.ListN.{length, take, drop, length-append}
 use lib.Seq.{take_at, drop_at, take_all, drop-append-le, take-append-le, take-add}
-use borrow.Author.Tests.{eq-eqb, lt-ltb}
+use borrow.Author.Tests.{eq-eqb}
 use Rattle.words.specs.Lists.{part}
 use Rattle.words.specs.Over.{put, newer}
 use Rattle.words.proofs.Over.{put_all, over_then}
 use Rattle.words.proofs.Slices.{length_part}
 use Rattle.words.proofs.Tests.{both_left, both_right, holds_true}
 use Rattle.board.specs.Board as B
-use Rattle.memories.specs.Memories.{Memories, memories, proper, fresh_memories}
-use Rattle.keeping.specs.Kept.{usd_at, memories_bytes, in_bytes, memories_in, named, Fits, Kept}
+use Rattle.memories.specs.Memories.{Memories, memories, proper}
+use Rattle.keeping.specs.Kept.{usd_at, memories_bytes, in_bytes, memories_in, Fits}
 
 -- ---- lengths
 
@@ -46,11 +46,6 @@ are_proper m l = rw (
 -- memories for which there is room have theirs
 pub lengths_fit : {m : Memories} {room : List ℕ} → Fits m room → Lengths m
 lengths_fit f = record { flash = f.flash; sram = f.sram; usd = f.usd }
-
--- others of the same lengths fit, too
-pub still_fits : {m n : Memories} {old room : List ℕ} → Fits m old → length n.flash ≡ length m.flash
-    → length n.sram ≡ length m.sram → length n.usd ≡ length m.usd → length room ≡ length old → Fits n room
-still_fits f p q r s = record { flash = p ∙ f.flash; sram = q ∙ f.sram; usd = r ∙ f.usd; room = s ∙ f.room }
 
 -- as many bytes as the memories have
 pub all_bytes : (m : Memories) → Lengths m → length (in_bytes m) ≡ memories_bytes
@@ -107,7 +102,7 @@ parts_held m room e p = sym (bytes_back room e) ∙ ap in_bytes (sym p)
 -- ---- the code's steps
 
 -- user system data reaches to the end of a room
-usd_part : (room : List ℕ) → length room ≡ memories_bytes
+pub usd_part : (room : List ℕ) → length room ≡ memories_bytes
     → take (length room - usd_at) (drop usd_at room) ≡ part usd_at (B.usd).bytes room
 usd_part room e =
     let n : length room - usd_at ≡ (B.usd).bytes = omega (arith, e) in
@@ -141,45 +136,10 @@ each_held m room l e a b c f s u = (forth, back)
 
 -- the memories laid one behind the other over a room
 pub laid : (m : Memories) (room : List ℕ) {one two three : List ℕ} → Lengths m → length room ≡ memories_bytes
-    → one ≡ put room 0 (part 0 (B.flash).bytes m.flash) → two ≡ put one (B.flash).bytes (part 0 (B.sram).bytes m.sram)
-    → three ≡ put two usd_at (part 0 (B.usd).bytes m.usd) → three ≡ in_bytes m
+    → one ≡ put room 0 m.flash → two ≡ put one (B.flash).bytes m.sram → three ≡ put two usd_at m.usd → three ≡ in_bytes m
 laid m room {one} {two} {three} l e p q r =
-    let f = take_all (B.flash).bytes m.flash (omega (arith, l.flash)) in
-    let s = take_all (B.sram).bytes m.sram (omega (arith, l.sram)) in
-    let u = take_all (B.usd).bytes m.usd (omega (arith, l.usd)) in
     let n : (B.flash).bytes ≡ 0 + length m.flash = omega (arith, l.flash) in
     let k : usd_at ≡ 0 + length (m.flash ++ m.sram) = omega (arith, both m l) in
-    let first = p ∙ ap (put room 0) f in
-    let second = q ∙ (λ i. put (first i) (n i) (s i)) ∙ over_then newer room 0 m.flash m.sram in
-    r ∙ (λ i. put (second i) (k i) (u i)) ∙ over_then newer room 0 (m.flash ++ m.sram) m.usd
+    let second = q ∙ (λ i. put (p i) (n i) m.sram) ∙ over_then newer room 0 m.flash m.sram in
+    r ∙ (λ i. put (second i) (k i) m.usd) ∙ over_then newer room 0 (m.flash ++ m.sram) m.usd
     ∙ put_all room (in_bytes m) (omega (arith, all_bytes m l, e))
-
--- the parts of a room laid over the memories
-pub brought : (m : Memories) (room : List ℕ) {flash sram usd : List ℕ} → Lengths m → length room ≡ memories_bytes
-    → flash ≡ put m.flash 0 (part 0 (B.flash).bytes room) → sram ≡ put m.sram 0 (part (B.flash).bytes (B.sram).bytes room)
-    → usd ≡ put m.usd 0 (part usd_at (B.usd).bytes room) → memories flash sram usd ≡ memories_in room
-brought m room l e p q r =
-    let n = lengths_in room e in
-    let f = p ∙ put_all m.flash _ (n.flash ∙ sym l.flash) in
-    let s = q ∙ put_all m.sram _ (n.sram ∙ sym l.sram) in
-    let u = r ∙ put_all m.usd _ (n.usd ∙ sym l.usd) in
-    λ i. memories (f i) (s i) (u i)
-
--- ---- a file's name
-
--- a name of no character
-pub unnamed : (name : List ℕ) → length name ≡ 0 → named name ≡ false
-unnamed name e = rw e refl
-
--- one of some characters
-pub is_named_lem : (name : List ℕ) → (length name ≡ 0 → ⊥) → named name ≡ true
-is_named_lem name n = lt-ltb 0 (length name) (omega (arith, n))
-
--- where no file is named, a room need hold nothing
-pub none_kept : (name : List ℕ) (m : Memories) (room : List ℕ) → length name ≡ 0 → Kept name m room
-none_kept name m room e t = absurd (subst T (unnamed name e) t)
-
--- three memories that are each the fresh board's
-pub all_fresh : {flash sram usd : List ℕ} → flash ≡ fresh_memories.flash → sram ≡ fresh_memories.sram → usd ≡ fresh_memories.usd
-    → memories flash sram usd ≡ fresh_memories
-all_fresh f s u = λ i. memories (f i) (s i) (u i)

@@ -9,14 +9,14 @@ pub mod turns;
 
 ghost use Rattle.std.specs.Prelude.{◌≡◌, ◌↔◌, true, false, length, ◌+◌, IsOk, OnOk, OnErr};
 ghost use Rattle.std.specs.Io.KnownBytes.{Appends};
-ghost use Rattle.memories.specs.Lent.{held, were, are};
-ghost use Rattle.memories.specs.Memories.{memories};
+ghost use Rattle.memories.specs.Lent.{holds, had, has, Same};
 ghost use Rattle.keeping.specs.declared.Untold.TheVariants.{Unkept};
 ghost use Rattle.keeping.specs.Kept.{memories_bytes, in_bytes, memories_in, named, Fits, Kept};
 
 use files::Said;
 use files::system::System;
-use room::{MEMORIES_BYTES, bring_back, holds, take_down};
+use memories::Lent;
+use room::{MEMORIES_BYTES, bring_back, is_held, take_down};
 use std::io::Write;
 
 // Why something could not be told: the memories could not be kept, which is said, or what was to be answered could not be written.
@@ -39,11 +39,7 @@ impl From<Said> for Untold {
 struct WrongLength;
 
 // Room for the bytes of a file, and a byte more, which tells that it is longer.
-fn file_room() -> [u8; MEMORIES_BYTES + 1]
-    ensures { memories_bytes + 1 ≡ length result }
-{
-    [0; MEMORIES_BYTES + 1]
-}
+const FILE_ROOM: usize = MEMORIES_BYTES + 1;
 
 // Says that a file has another length than a board's memories.
 fn say_length<R: System>(rt: &R, name: &[u8], length: usize) -> Said {
@@ -78,61 +74,48 @@ fn make<R: System>(
     rt: &R,
     missing: bool,
     name: &[u8],
-    flash: &[u8],
-    sram: &[u8],
-    usd: &[u8],
+    lent: &Lent<'_>,
     kept: &mut [u8],
 ) -> Result<(), Said>
     requires missing_value { missing ≡ true }
-    requires fits { Fits (memories flash.now sram.now usd.now) kept.old }
-    ensures made { OnOk result (kept.new ≡ in_bytes (memories flash.now sram.now usd.now)) }
+    requires fits { Fits (holds lent.now) kept.old }
+    ensures made { OnOk result (kept.new ≡ in_bytes (holds lent.now)) }
     ensures unkept { OnErr result (kept.new ≡ kept.old) }
 {
-    let first = take_down(flash, sram, usd);
+    let first = take_down(lent);
     put_down(rt, name, &first, kept)
 }
 
 // Brings the memories back that some bytes are, and takes these down, if memories are so many bytes.
-fn restore(
-    bytes: &[u8],
-    flash: &mut [u8],
-    sram: &mut [u8],
-    usd: &mut [u8],
-    kept: &mut [u8],
-) -> Result<(), WrongLength>
-    requires { Fits (held flash sram usd) kept.old }
+fn restore(bytes: &[u8], lent: &mut Lent<'_>, kept: &mut [u8]) -> Result<(), WrongLength>
+    requires { Fits (holds lent.old) kept.old }
     ensures all { IsOk result ↔ (length bytes.now ≡ memories_bytes) }
-    ensures back { OnOk result (are flash sram usd ≡ memories_in bytes.now) }
+    ensures back { OnOk result (has lent ≡ memories_in bytes.now) }
     ensures kept { OnOk result (kept.new ≡ bytes.now) }
-    ensures taken { OnOk result (kept.new ≡ in_bytes (are flash sram usd)) }
-    ensures refused { OnErr result (are flash sram usd ≡ were flash sram usd) }
+    ensures taken { OnOk result (kept.new ≡ in_bytes (has lent)) }
+    ensures refused { OnErr result (has lent ≡ had lent) }
     ensures unkept { OnErr result (kept.new ≡ kept.old) }
+    ensures same { Same lent }
 {
     if bytes.len() != MEMORIES_BYTES {
         return Err(WrongLength);
     }
-    bring_back(bytes, flash, sram, usd);
+    bring_back(bytes, lent);
     kept.copy_from_slice(bytes);
     Ok(())
 }
 
 // Brings the memories back that the file of a name holds, or says why it cannot.
-fn go_on<R: System>(
-    rt: &R,
-    name: &[u8],
-    flash: &mut [u8],
-    sram: &mut [u8],
-    usd: &mut [u8],
-    kept: &mut [u8],
-) -> Result<(), Said>
-    requires { Fits (held flash sram usd) kept.old }
-    ensures kept { OnOk result (kept.new ≡ in_bytes (are flash sram usd)) }
-    ensures refused { OnErr result (are flash sram usd ≡ were flash sram usd) }
+fn go_on<R: System>(rt: &R, name: &[u8], lent: &mut Lent<'_>, kept: &mut [u8]) -> Result<(), Said>
+    requires { Fits (holds lent.old) kept.old }
+    ensures kept { OnOk result (kept.new ≡ in_bytes (has lent)) }
+    ensures refused { OnErr result (has lent ≡ had lent) }
     ensures unkept { OnErr result (kept.new ≡ kept.old) }
+    ensures same { Same lent }
 {
-    let mut bytes = file_room();
+    let mut bytes = words::zeros::<FILE_ROOM>();
     let n = files::read(rt, name, &mut bytes)?;
-    match restore(&bytes[..n], flash, sram, usd, kept) {
+    match restore(&bytes[..n], lent, kept) {
         Ok(()) => Ok(()),
         Err(WrongLength) => Err(say_length(rt, name, n)),
     }
@@ -143,63 +126,53 @@ fn go_on<R: System>(
 pub fn begin<R: System>(
     rt: &R,
     name: &[u8],
-    flash: &mut [u8],
-    sram: &mut [u8],
-    usd: &mut [u8],
+    lent: &mut Lent<'_>,
     kept: &mut [u8],
 ) -> Result<(), Said>
-    requires { Fits (held flash sram usd) kept.old }
-    ensures unnamed { named name.now ≡ false → IsOk result × (are flash sram usd ≡ were flash sram usd) }
-    ensures refused { OnErr result (are flash sram usd ≡ were flash sram usd) }
-    ensures kept { OnOk result (Kept name.now (are flash sram usd) kept.new) }
+    requires { Fits (holds lent.old) kept.old }
+    ensures unnamed { named name.now ≡ false → IsOk result × (has lent ≡ had lent) }
+    ensures refused { OnErr result (has lent ≡ had lent) }
+    ensures kept { OnOk result (Kept name.now (has lent) kept.new) }
+    ensures same { Same lent }
 {
     if name.is_empty() {
         return Ok(()); // with the lent memories
     }
     let missing = files::is_missing(rt, name);
     if missing {
-        make(rt, missing, name, flash, sram, usd, kept)
+        make(rt, missing, name, lent, kept)
     } else {
-        go_on(rt, name, flash, sram, usd, kept)
+        go_on(rt, name, lent, kept)
     }
 }
 
 // Keeps the memories in the file of a name, where they are not what was kept last, or says why it cannot; without a name it does nothing.
-pub fn keep<R: System>(
-    rt: &R,
-    name: &[u8],
-    flash: &[u8],
-    sram: &[u8],
-    usd: &[u8],
-    kept: &mut [u8],
-) -> Result<(), Said>
-    requires { Fits (memories flash.now sram.now usd.now) kept.old }
-    ensures kept { OnOk result (Kept name.now (memories flash.now sram.now usd.now) kept.new) }
+pub fn keep<R: System>(rt: &R, name: &[u8], lent: &Lent<'_>, kept: &mut [u8]) -> Result<(), Said>
+    requires { Fits (holds lent.now) kept.old }
+    ensures kept { OnOk result (Kept name.now (holds lent.now) kept.new) }
     ensures unkept { OnErr result (kept.new ≡ kept.old) }
-    ensures same { Kept name.now (memories flash.now sram.now usd.now) kept.old → IsOk result }
+    ensures same { Kept name.now (holds lent.now) kept.old → IsOk result }
 {
     if name.is_empty() {
         return Ok(());
     }
-    let same = holds(flash, sram, usd, kept);
+    let same = is_held(lent, kept);
     if same {
         return Ok(());
     }
-    let new = take_down(flash, sram, usd);
+    let new = take_down(lent);
     put_down(rt, name, &new, kept)
 }
 
 // Writes what is to be answered, once the memories are kept: only for that they are lent.
 fn answer<W: Write>(
     name: &[u8],
-    flash: &[u8],
-    sram: &[u8],
-    usd: &[u8],
+    lent: &Lent<'_>,
     kept: &[u8],
     to: &mut W,
     text: &[u8],
 ) -> Result<(), Untold>
-    requires { Kept name.now (memories flash.now sram.now usd.now) kept.now }
+    requires { Kept name.now (holds lent.now) kept.now }
     ensures { OnOk result (Appends (W.contents to.old) (W.contents to.new) text.now) }
 {
     to.write_all(text).map_err(|_| Untold::Unwritten)
@@ -209,17 +182,15 @@ fn answer<W: Write>(
 pub fn tell<R: System, W: Write>(
     rt: &R,
     name: &[u8],
-    flash: &[u8],
-    sram: &[u8],
-    usd: &[u8],
+    lent: &Lent<'_>,
     kept: &mut [u8],
     to: &mut W,
     text: &[u8],
 ) -> Result<(), Untold>
-    requires { Fits (memories flash.now sram.now usd.now) kept.old }
-    ensures kept { OnOk result (Kept name.now (memories flash.now sram.now usd.now) kept.new) }
+    requires { Fits (holds lent.now) kept.old }
+    ensures kept { OnOk result (Kept name.now (holds lent.now) kept.new) }
     ensures written { OnOk result (Appends (W.contents to.old) (W.contents to.new) text.now) }
 {
-    keep(rt, name, flash, sram, usd, kept)?;
-    answer(name, flash, sram, usd, kept, to, text)
+    keep(rt, name, lent, kept)?;
+    answer(name, lent, kept, to, text)
 }

@@ -1,10 +1,11 @@
 // A board's memories, taken down in a room one behind the other and brought back from it.
-ghost use Rattle.std.specs.Prelude.{◌≡◌, true, false, T, length};
-ghost use Rattle.memories.specs.Lent.{held, were, are};
-ghost use Rattle.memories.specs.Memories.{memories, proper};
-ghost use Rattle.keeping.specs.Kept.{memories_bytes, in_bytes, memories_in, Fits};
+ghost use Rattle.std.specs.Prelude.{◌≡◌, true, T};
+ghost use Rattle.memories.specs.Lent.{holds, has, Same};
+ghost use Rattle.memories.specs.Memories.{proper};
+ghost use Rattle.keeping.specs.Kept.{in_bytes, memories_in, Fits};
 
 use board::Board;
+use memories::Lent;
 
 // Where SRAM and user system data begin, and how many bytes the memories are.
 const SRAM_AT: usize = Board::FLASH_BYTES;
@@ -13,43 +14,37 @@ const USD_AT: usize = SRAM_AT + Board::SRAM_BYTES;
 
 pub const MEMORIES_BYTES: usize = USD_AT + Board::USD_BYTES;
 
-// Room for the memories, of which only its length counts.
-pub fn empty() -> [u8; MEMORIES_BYTES]
-    ensures { memories_bytes ≡ length result }
-{
-    [0; MEMORIES_BYTES]
-}
-
 // Whether a room holds the memories.
-pub fn holds(flash: &[u8], sram: &[u8], usd: &[u8], room: &[u8]) -> bool
-    requires { Fits (memories flash.now sram.now usd.now) room.now }
-    ensures held { result ≡ true → room.now ≡ in_bytes (memories flash.now sram.now usd.now) }
-    ensures only { room.now ≡ in_bytes (memories flash.now sram.now usd.now) → result ≡ true }
+pub fn is_held(lent: &Lent<'_>, room: &[u8]) -> bool
+    requires { Fits (holds lent.now) room.now }
+    ensures held { result ≡ true → room.now ≡ in_bytes (holds lent.now) }
+    ensures only { room.now ≡ in_bytes (holds lent.now) → result ≡ true }
 {
-    let first = check::same(flash, &room[..SRAM_AT]);
-    let second = check::same(sram, &room[SRAM_AT..USD_AT]);
-    let third = check::same(usd, &room[USD_AT..]);
+    let first = check::same(lent.flash, &room[..SRAM_AT]);
+    let second = check::same(lent.sram, &room[SRAM_AT..USD_AT]);
+    let third = check::same(lent.usd, &room[USD_AT..]);
     first & second & third
 }
 
 // The bytes of the memories.
-pub fn take_down(flash: &[u8], sram: &[u8], usd: &[u8]) -> [u8; MEMORIES_BYTES]
-    requires { T (proper (memories flash.now sram.now usd.now)) }
-    ensures { result ≡ in_bytes (memories flash.now sram.now usd.now) }
+pub fn take_down(lent: &Lent<'_>) -> [u8; MEMORIES_BYTES]
+    requires { T (proper (holds lent.now)) }
+    ensures { result ≡ in_bytes (holds lent.now) }
 {
-    let mut room = empty();
-    words::copy(&mut room, 0, flash, 0, Board::FLASH_BYTES);
-    words::copy(&mut room, SRAM_AT, sram, 0, Board::SRAM_BYTES);
-    words::copy(&mut room, USD_AT, usd, 0, Board::USD_BYTES);
+    let mut room = words::zeros();
+    words::lay(&mut room, 0, lent.flash);
+    words::lay(&mut room, SRAM_AT, lent.sram);
+    words::lay(&mut room, USD_AT, lent.usd);
     room
 }
 
 // Brings the memories back that a room holds.
-pub fn bring_back(room: &[u8], flash: &mut [u8], sram: &mut [u8], usd: &mut [u8])
-    requires { Fits (held flash sram usd) room.now }
-    ensures { are flash sram usd ≡ memories_in room.now }
+pub fn bring_back(room: &[u8], lent: &mut Lent<'_>)
+    requires { Fits (holds lent.old) room.now }
+    ensures back { has lent ≡ memories_in room.now }
+    ensures same { Same lent }
 {
-    words::copy(flash, 0, room, 0, Board::FLASH_BYTES);
-    words::copy(sram, 0, room, SRAM_AT, Board::SRAM_BYTES);
-    words::copy(usd, 0, room, USD_AT, Board::USD_BYTES);
+    lent.flash.copy_from_slice(&room[..SRAM_AT]);
+    lent.sram.copy_from_slice(&room[SRAM_AT..USD_AT]);
+    lent.usd.copy_from_slice(&room[USD_AT..]);
 }

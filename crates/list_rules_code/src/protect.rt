@@ -10,6 +10,7 @@ use command::{Decision, FixedReply, Next, Why};
 use memories::Change;
 
 // Whether some indexes are all those of sectors of the board.
+// Kept: beside `erase::all_exist` (d): over `&[[u8; N]]` both would fold N bytes to a number, where each is one chain now.
 fn all_exist(indexes: &[u8]) -> bool
     ensures { result ≡ list_all (λ n. is_sector (sector n)) indexes.now }
 {

@@ -14,18 +14,11 @@ ghost use Rattle.word_crc.specs.Words.{word_crc};
 ghost use Rattle.memories.specs.Lent.{holds};
 ghost use Rattle.memories.specs.Memories.{proper, bytes_of};
 ghost use Rattle.command.specs.Says.{reply_room, ack_byte, tells, says, sayable, fixed, Said};
-ghost use Rattle.reply.specs.Fixed.{fixed_room, listing, Holds, Lists};
+ghost use Rattle.reply.specs.Fixed.{fixed_room, listing, Lists};
 
 use board::{Board, Region};
 use command::{FixedReply, Reply, code};
 use memories::Lent;
-
-// A fixed reply: bytes, of which the first few are the reply, and how many these are.
-#[derive(Clone, Copy)]
-pub struct Fixed {
-    pub bytes: [u8; LONGEST],
-    pub count: usize,
-}
 
 // ACK and NACK.
 pub const ACK: u8 = 0x79;
@@ -35,43 +28,23 @@ pub const NACK: u8 = 0x1F;
 // The byte before the product ID.
 const DEVICE_TOLD: u8 = 0x04;
 
-// The bytes of the replies to 0x01, to 0x02 and of a checksum.
-const VERSION_LENGTH: usize = 5;
-
-const DEVICE_LENGTH: usize = 8;
-
+// The bytes of a reply that is a checksum.
 const SUM_LENGTH: usize = 1 + numbers::SHORT;
 
 // The bytes of the longest fixed reply, that to 0x00 on CAN.
 pub const LONGEST: usize = 18;
 
-// ACK and NACK.
-const ACK_NACK: [u8; LONGEST] = [ACK, NACK, 0, 0, 0, 0, 0, 0, 0, 0, 0, 0, 0, 0, 0, 0, 0, 0];
-
 // What 0x01 tells, between two ACKs.
-const VERSION: [u8; LONGEST] = [
+const VERSION: &[u8] = &[
     ACK,
     Board::VERSION,
     Board::BID_FIRST,
     Board::BID_SECOND,
     ACK,
-    0,
-    0,
-    0,
-    0,
-    0,
-    0,
-    0,
-    0,
-    0,
-    0,
-    0,
-    0,
-    0,
 ];
 
 // What 0x02 tells, between two ACKs.
-const DEVICE: [u8; LONGEST] = [
+const DEVICE: &[u8] = &[
     ACK,
     DEVICE_TOLD,
     (Board::PRODUCT / 256 % 256) as u8,
@@ -80,16 +53,6 @@ const DEVICE: [u8; LONGEST] = [
     (Board::PRODUCT / 65536 % 256) as u8,
     Board::PROJECT,
     ACK,
-    0,
-    0,
-    0,
-    0,
-    0,
-    0,
-    0,
-    0,
-    0,
-    0,
 ];
 
 // The bytes of an answer to 0x00, with a count and two bytes behind the commands that both carriers have.
@@ -152,40 +115,20 @@ fn say_data(region: Region, at: usize, x: usize, lent: &Lent<'_>, buffer: &mut [
 }
 
 // The bytes of what is told whatever the memories hold, given what the carrier tells of its commands.
-fn fixed_bytes(commands: Fixed, told: FixedReply) -> Fixed
-    requires { Holds commands }
-    ensures { Holds result × ((list : List ℕ) → Lists commands list → take result.count result.bytes ≡ join (tells list told)) }
+fn fixed_bytes(commands: &[u8], told: FixedReply) -> &[u8]
+    requires { length commands.now ≤ fixed_room }
+    ensures few { length result.now ≤ fixed_room }
+    ensures told { (list : List ℕ) → Lists commands.now list → result.now ≡ join (tells list told) }
 {
     match told {
-        FixedReply::Silence => Fixed {
-            bytes: [0; LONGEST],
-            count: 0,
-        },
-        FixedReply::Ack => Fixed {
-            bytes: [ACK; LONGEST],
-            count: 1,
-        },
-        FixedReply::AckAck => Fixed {
-            bytes: [ACK; LONGEST],
-            count: 2,
-        },
-        FixedReply::Nack(_) => Fixed {
-            bytes: [NACK; LONGEST],
-            count: 1,
-        },
-        FixedReply::AckNack(_) => Fixed {
-            bytes: ACK_NACK,
-            count: 2,
-        },
+        FixedReply::Silence => &[],
+        FixedReply::Ack => &[ACK],
+        FixedReply::AckAck => &[ACK, ACK],
+        FixedReply::Nack(_) => &[NACK],
+        FixedReply::AckNack(_) => &[ACK, NACK],
         FixedReply::Commands => commands,
-        FixedReply::Version => Fixed {
-            bytes: VERSION,
-            count: VERSION_LENGTH,
-        },
-        FixedReply::DeviceId => Fixed {
-            bytes: DEVICE,
-            count: DEVICE_LENGTH,
-        },
+        FixedReply::Version => VERSION,
+        FixedReply::DeviceId => DEVICE,
     }
 }
 
@@ -200,19 +143,18 @@ fn say_sum(flash: &[u8], at: usize, n: usize, buffer: &mut [u8]) -> usize
 }
 
 // Writes the bytes of a reply that can be given, message behind message, and tells how many; what a carrier tells of its commands is given.
-pub fn say(commands: Fixed, reply: Reply, lent: &Lent<'_>, buffer: &mut [u8]) -> usize
-    requires { Holds commands × T (proper (holds lent.now)) × T (sayable reply) × (reply_room ≤ length buffer.old) }
-    ensures { ((list : List ℕ) → Lists commands list → Said (join (says list reply (holds lent.now))) result buffer.old buffer.new)
+pub fn say(commands: &[u8], reply: Reply, lent: &Lent<'_>, buffer: &mut [u8]) -> usize
+    requires { (length commands.now ≤ fixed_room) × T (proper (holds lent.now)) × T (sayable reply) × (reply_room ≤ length buffer.old) }
+    ensures { ((list : List ℕ) → Lists commands.now list → Said (join (says list reply (holds lent.now))) result buffer.old buffer.new)
         × (result ≤ reply_room) × (T (fixed reply) → result ≤ fixed_room) }
 {
     match reply {
         Reply::Data(region, at, x) => say_data(region, at, x, lent, buffer),
         Reply::Crc(at, n) => say_sum(lent.flash, at, n, buffer),
         Reply::Fixed(told) => {
-            let fixed = fixed_bytes(commands, told);
-            let bytes = fixed.bytes;
-            words::copy(buffer, 0, &bytes, 0, fixed.count);
-            fixed.count
+            let bytes = fixed_bytes(commands, told);
+            words::copy(buffer, 0, bytes, 0, bytes.len());
+            bytes.len()
         }
     }
 }

@@ -52,7 +52,11 @@ fn selected(selector: Selector) -> Decision
         }
         Selector::Special(number) => command::answer(
             FixedReply::Silence,
-            Next::EnterAt(u8::from(Step::SpecialCheck), uart::ONE_BYTE, number as u32),
+            Next::EnterAt(
+                u8::from(Step::SpecialCheck),
+                uart::ONE_BYTE,
+                u32::from(number),
+            ),
         ),
         Selector::Impossible => command::nack(Why::BadRange),
     }

@@ -102,7 +102,12 @@ fn answer(taken: Taken, lent: &Lent<'_>, buffer: &[u8]) -> Line
 }
 
 // Writes what a call left.
-pub fn report<W: Write>(to: &mut W, taken: Taken, lent: &Lent<'_>, buffer: &[u8]) -> std::io::Result<()>
+pub fn report<W: Write>(
+    to: &mut W,
+    taken: Taken,
+    lent: &Lent<'_>,
+    buffer: &[u8],
+) -> std::io::Result<()>
     requires { length buffer.now ≤ reply_room }
 {
     answer(taken, lent, buffer).write(to)

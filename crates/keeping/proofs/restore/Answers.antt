@@ -4,4 +4,4 @@ use Rattle.keeping.proofs.Rooms.{parts_held}
 use Rattle.keeping.proofs.restore.Goals as goal
 
 pub returns-clause-taken : goal.returns-clause-taken
-returns-clause-taken c = c.copy_from_slice.ensures.after ∙ parts_held _ c.args.bytes.now c.if-bytes-ne-MEMORIES_BYTES.false c.bring_back.ensures
+returns-clause-taken c = c.copy_from_slice.ensures.after ∙ parts_held _ c.args.bytes.now c.if-bytes-ne-MEMORIES_BYTES.false c.bring_back.ensures.back

@@ -1,10 +1,8 @@
 -- The memories are laid one behind the other over a room of their length.
-use Rattle.std.proofs.Common.{sym}
-use Rattle.memories.specs.Memories.{memories}
+use Rattle.memories.specs.Lent.{holds}
 use Rattle.keeping.proofs.Rooms.{lengths, laid}
 use Rattle.keeping.proofs.room.take_down.Goals as goal
 
 pub returns : goal.returns
 returns c =
-    laid (memories c.args.flash.now c.args.sram.now c.args.usd.now) c.empty-room.result (lengths _ c.requires)
-    (sym c.empty-room.ensures) c.copy.ensures c.copy-2.ensures c.copy-3.ensures
+    laid (holds c.args.lent.now) c.zeros-room.result (lengths _ c.requires) c.zeros-room.ensures.length c.lay.ensures c.lay-2.ensures c.lay-3.ensures
