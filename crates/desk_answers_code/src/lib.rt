@@ -6,7 +6,7 @@ mod why;
 ghost use Rattle.std.specs.Prelude.{◌≡◌, [], ◌∷◌, map, ◌+◌, ◌*◌, ◌≤◌, ◌<◌, T, length, drop};
 ghost use Rattle.words.specs.Hex.{field_characters};
 ghost use Rattle.words.specs.Over.{put};
-ghost use Rattle.memories.specs.Lent.{were, are};
+ghost use Rattle.memories.specs.Lent.{had, has, Same};
 ghost use Rattle.boot.specs.Calls.{Byte, Framed};
 ghost use Rattle.boot.specs.Promise.{state_of};
 ghost use Rattle.desk_lines.specs.Lines.{most_characters, are_fields, fields, are_frame, frame_written, kind_of};
@@ -18,6 +18,7 @@ use desk_answers::{ANSWERED, NOT_UNDERSTOOD};
 use desk_lines::line::MOST_CHARACTERS;
 use desk_lines::{Kind, line};
 use desk_written::first::LINE_FEED;
+use memories::Lent;
 use words::{FIELD, SPACE};
 
 // The room for a reply: what either carrier needs.
@@ -52,9 +53,7 @@ pub struct ToldFront {
 fn tell_front(
     begun: Telling,
     bytes: &[u8],
-    flash: &mut [u8],
-    sram: &mut [u8],
-    usd: &mut [u8],
+    lent: &mut Lent<'_>,
     out: &mut [u8],
     notes: &mut [u16],
 ) -> ToldFront
@@ -62,18 +61,19 @@ fn tell_front(
     requires field_characters_in_bounds { begun.end + desk_room * field_characters ≤ length out.old }
     requires note_numbers_in_bounds { begun.noted + note_numbers ≤ length notes.old }
     ensures some { (0 < result.count) × (result.count ≤ length bytes.now) }
-    ensures told { Continues (tells (map (Byte desk_room) (drop result.count bytes.now)) (state_of result.told.session (are flash sram usd)))
-        result.told.end out.new (tells (map (Byte desk_room) bytes.now) (state_of begun.session (were flash sram usd)))
+    ensures told { Continues (tells (map (Byte desk_room) (drop result.count bytes.now)) (state_of result.told.session (has lent)))
+        result.told.end out.new (tells (map (Byte desk_room) bytes.now) (state_of begun.session (had lent)))
         begun.end out.old }
     ensures noted { Continues
-        (Answers·notes (map (Byte desk_room) (drop result.count bytes.now)) (state_of result.told.session (are flash sram usd)))
-        result.told.noted notes.new (Answers·notes (map (Byte desk_room) bytes.now) (state_of begun.session (were flash sram usd)))
+        (Answers·notes (map (Byte desk_room) (drop result.count bytes.now)) (state_of result.told.session (has lent)))
+        result.told.noted notes.new (Answers·notes (map (Byte desk_room) bytes.now) (state_of begun.session (had lent)))
         begun.noted notes.old }
     ensures fits { (result.told.end ≤ begun.end + desk_room * field_characters) × (result.told.noted ≤ begun.noted + note_numbers) }
+    ensures same { Same lent }
 {
     let mut buffer = [0u8; ROOM];
     let session = begun.session;
-    let front = session.take_front(bytes, flash, sram, usd, &mut buffer);
+    let front = session.take_front(bytes, lent, &mut buffer);
     let taken = front.taken;
     let end = desk_print::bytes(&buffer[..taken.length], out, begun.end);
     let noted = why::note(taken.reason, taken.place, notes, begun.noted);
@@ -91,25 +91,24 @@ fn tell_front(
 fn tell_all(
     begun: Telling,
     bytes: &[u8],
-    flash: &mut [u8],
-    sram: &mut [u8],
-    usd: &mut [u8],
+    lent: &mut Lent<'_>,
     out: &mut [u8],
     notes: &mut [u16],
 ) -> Telling
     requires bytes_in_bounds { begun.end + desk_room * field_characters * length bytes.now ≤ length out.old }
     requires bytes_in_bounds_2 { begun.noted + note_numbers * length bytes.now ≤ length notes.old }
-    ensures told { Tells (tells (map (Byte desk_room) bytes.now) (state_of begun.session (were flash sram usd)))
-        begun.end out.old result.end out.new (state_of result.session (are flash sram usd)) }
-    ensures noted { Tells (Answers·notes (map (Byte desk_room) bytes.now) (state_of begun.session (were flash sram usd)))
-        begun.noted notes.old result.noted notes.new (state_of result.session (are flash sram usd)) }
+    ensures told { Tells (tells (map (Byte desk_room) bytes.now) (state_of begun.session (had lent)))
+        begun.end out.old result.end out.new (state_of result.session (has lent)) }
+    ensures noted { Tells (Answers·notes (map (Byte desk_room) bytes.now) (state_of begun.session (had lent)))
+        begun.noted notes.old result.noted notes.new (state_of result.session (has lent)) }
     ensures fits { (result.end ≤ begun.end + desk_room * field_characters * length bytes.now)
         × (result.noted ≤ begun.noted + note_numbers * length bytes.now) }
+    ensures same { Same lent }
 {
     let mut told = begun;
     let mut left = bytes;
     while !left.is_empty() {
-        let front = tell_front(told, left, flash, sram, usd, out, notes);
+        let front = tell_front(told, left, lent, out, notes);
         told = front.told;
         left = &left[front.count..];
     }
@@ -120,51 +119,49 @@ fn tell_all(
 fn tell_bytes(
     begun: Telling,
     rest: &[u8],
-    flash: &mut [u8],
-    sram: &mut [u8],
-    usd: &mut [u8],
+    lent: &mut Lent<'_>,
     out: &mut [u8],
     notes: &mut [u16],
 ) -> Telling
     requires t { T (are_fields rest.now) × (length rest.now ≤ most_characters) }
     requires rest_in_bounds { begun.end + desk_room * length rest.now ≤ length out.old }
     requires rest_in_bounds_2 { begun.noted + length rest.now ≤ length notes.old }
-    ensures told { Tells (tells (map (Byte desk_room) (fields rest.now)) (state_of begun.session (were flash sram usd)))
-        begun.end out.old result.end out.new (state_of result.session (are flash sram usd)) }
-    ensures noted { Tells (Answers·notes (map (Byte desk_room) (fields rest.now)) (state_of begun.session (were flash sram usd)))
-        begun.noted notes.old result.noted notes.new (state_of result.session (are flash sram usd)) }
+    ensures told { Tells (tells (map (Byte desk_room) (fields rest.now)) (state_of begun.session (had lent)))
+        begun.end out.old result.end out.new (state_of result.session (has lent)) }
+    ensures noted { Tells (Answers·notes (map (Byte desk_room) (fields rest.now)) (state_of begun.session (had lent)))
+        begun.noted notes.old result.noted notes.new (state_of result.session (has lent)) }
     ensures fits { (result.end ≤ begun.end + desk_room * length rest.now) × (result.noted ≤ begun.noted + length rest.now) }
+    ensures same { Same lent }
 {
     let mut written = [0u8; MOST_BYTES];
     let n = desk_written::bytes(rest, &mut written);
-    tell_all(begun, &written[..n], flash, sram, usd, out, notes)
+    tell_all(begun, &written[..n], lent, out, notes)
 }
 
 // Makes the call of the frame that characters write, prints the frames of its reply and notes its NACK.
 fn tell_frame(
     begun: Telling,
     rest: &[u8],
-    flash: &mut [u8],
-    sram: &mut [u8],
-    usd: &mut [u8],
+    lent: &mut Lent<'_>,
     out: &mut [u8],
     notes: &mut [u16],
 ) -> Telling
     requires t { T (are_frame rest.now) }
     requires rest_in_bounds { begun.end + desk_room * length rest.now ≤ length out.old }
     requires rest_in_bounds_2 { begun.noted + length rest.now ≤ length notes.old }
-    ensures told { Tells (tells (Framed desk_room (frame_written rest.now) ∷ []) (state_of begun.session (were flash sram usd)))
-        begun.end out.old result.end out.new (state_of result.session (are flash sram usd)) }
+    ensures told { Tells (tells (Framed desk_room (frame_written rest.now) ∷ []) (state_of begun.session (had lent)))
+        begun.end out.old result.end out.new (state_of result.session (has lent)) }
     ensures noted { Tells
-        (Answers·notes (Framed desk_room (frame_written rest.now) ∷ []) (state_of begun.session (were flash sram usd)))
-        begun.noted notes.old result.noted notes.new (state_of result.session (are flash sram usd)) }
+        (Answers·notes (Framed desk_room (frame_written rest.now) ∷ []) (state_of begun.session (had lent)))
+        begun.noted notes.old result.noted notes.new (state_of result.session (has lent)) }
     ensures fits { (result.end ≤ begun.end + desk_room * length rest.now) × (result.noted ≤ begun.noted + length rest.now) }
+    ensures same { Same lent }
 {
     let mut input = [0u8; frames::BYTES];
     desk_written::frame(rest, &mut input);
     let mut buffer = [0u8; ROOM];
     let session = begun.session;
-    let taken = session.take_frame(&input, flash, sram, usd, &mut buffer);
+    let taken = session.take_frame(&input, lent, &mut buffer);
     let end = desk_print::frames(&buffer[..taken.length], out, begun.end);
     let noted = why::note(taken.reason, taken.place, notes, begun.noted);
     Telling {
@@ -179,24 +176,23 @@ fn tell_line(
     begun: Telling,
     kind: Kind,
     line: &[u8],
-    flash: &mut [u8],
-    sram: &mut [u8],
-    usd: &mut [u8],
+    lent: &mut Lent<'_>,
     out: &mut [u8],
     notes: &mut [u16],
 ) -> Telling
     requires kind_value { (kind ≡ kind_of line.now) × (length line.now ≤ most_characters) }
     requires line_in_bounds { begun.end + desk_room * length line.now ≤ length out.old }
     requires line_in_bounds_2 { begun.noted + length line.now ≤ length notes.old }
-    ensures told { Tells (tells (calls_of kind line.now) (state_of begun.session (were flash sram usd))) begun.end out.old
-        result.end out.new (state_of result.session (are flash sram usd)) }
-    ensures noted { Tells (Answers·notes (calls_of kind line.now) (state_of begun.session (were flash sram usd)))
-        begun.noted notes.old result.noted notes.new (state_of result.session (are flash sram usd)) }
+    ensures told { Tells (tells (calls_of kind line.now) (state_of begun.session (had lent))) begun.end out.old
+        result.end out.new (state_of result.session (has lent)) }
+    ensures noted { Tells (Answers·notes (calls_of kind line.now) (state_of begun.session (had lent)))
+        begun.noted notes.old result.noted notes.new (state_of result.session (has lent)) }
     ensures fits { (result.end ≤ begun.end + desk_room * length line.now) × (result.noted ≤ begun.noted + length line.now) }
+    ensures same { Same lent }
 {
     match kind {
-        Kind::Bytes => tell_bytes(begun, &line[1..], flash, sram, usd, out, notes),
-        Kind::Frame => tell_frame(begun, &line[1..], flash, sram, usd, out, notes),
+        Kind::Bytes => tell_bytes(begun, &line[1..], lent, out, notes),
+        Kind::Frame => tell_frame(begun, &line[1..], lent, out, notes),
         Kind::PowerOn => Telling {
             session: Session::power_on(),
             end: begun.end,
@@ -212,18 +208,17 @@ fn obey(
     why: bool,
     kind: Kind,
     line: &[u8],
-    flash: &mut [u8],
-    sram: &mut [u8],
-    usd: &mut [u8],
+    lent: &mut Lent<'_>,
     out: &mut [u8],
     at: usize,
 ) -> Answered
     requires kind_value { kind ≡ kind_of line.now }
     requires line_len_bound { length line.now ≤ most_characters }
     requires line_in_bounds { at + answer_room (length line.now) ≤ length out.old }
-    ensures told { Tells (obeyed why (calls_of kind line.now) (state_of session (were flash sram usd))) at out.old
-        result.end out.new (state_of result.session (are flash sram usd)) }
+    ensures told { Tells (obeyed why (calls_of kind line.now) (state_of session (had lent))) at out.old
+        result.end out.new (state_of result.session (has lent)) }
     ensures fits { result.end ≤ at + answer_room (length line.now) }
+    ensures same { Same lent }
 {
     out[at] = ANSWERED;
     let begun = Telling {
@@ -232,7 +227,7 @@ fn obey(
         noted: 0,
     };
     let mut notes = [0u16; MOST_CHARACTERS];
-    let told = tell_line(begun, kind, line, flash, sram, usd, out, &mut notes);
+    let told = tell_line(begun, kind, line, lent, out, &mut notes);
     out[told.end] = LINE_FEED;
     Answered {
         session: told.session,
@@ -259,16 +254,15 @@ pub fn answer(
     why: bool,
     number: u64,
     line: &[u8],
-    flash: &mut [u8],
-    sram: &mut [u8],
-    usd: &mut [u8],
+    lent: &mut Lent<'_>,
     out: &mut [u8],
     at: usize,
 ) -> Answered
     requires { at + answer_room (length line.now) ≤ length out.old }
-    ensures told { Tells (answer why number line.now (state_of session (were flash sram usd))) at out.old
-        result.end out.new (state_of result.session (are flash sram usd)) }
+    ensures told { Tells (answer why number line.now (state_of session (had lent))) at out.old
+        result.end out.new (state_of result.session (has lent)) }
     ensures fits { result.end ≤ at + answer_room (length line.now) }
+    ensures same { Same lent }
 {
     let kind = line::kind(line);
     match kind {
@@ -276,6 +270,6 @@ pub fn answer(
             session,
             end: disobey(number, out, at),
         },
-        _ => obey(session, why, kind, line, flash, sram, usd, out, at),
+        _ => obey(session, why, kind, line, lent, out, at),
     }
 }

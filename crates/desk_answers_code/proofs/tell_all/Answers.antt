@@ -2,7 +2,7 @@
 use mathlib.Core.Path.{subst}
 use lib.Dec.{T, eqb→eq}
 use lib.ListN.{length}
-use Rattle.memories.specs.Memories.{memories}
+use Rattle.memories.specs.Lent.{holds}
 use Rattle.boot.specs.Promise.{state_of}
 use Rattle.desk_answers.specs.Answers.{makes}
 use Rattle.desk_answers.proofs.Telling.{none_left}
@@ -14,11 +14,11 @@ unfolding makes
 returns-clause-told c =
     let loop = c.loop-left in
     let e = empty loop.left.now (eqb→eq (length loop.left.now) 0 (subst T c.loop-left-test.ensures tt)) in
-    none_left (state_of loop.told.session (memories loop.flash loop.sram loop.usd)) (rw e at loop.invariant.2)
+    none_left (state_of loop.told.session (holds loop.lent)) (rw e at loop.invariant.2)
 
 pub returns-clause-noted : goal.returns-clause-noted
 unfolding makes
 returns-clause-noted c =
     let loop = c.loop-left in
     let e = empty loop.left.now (eqb→eq (length loop.left.now) 0 (subst T c.loop-left-test.ensures tt)) in
-    none_left (state_of loop.told.session (memories loop.flash loop.sram loop.usd)) (rw e at loop.invariant.3)
+    none_left (state_of loop.told.session (holds loop.lent)) (rw e at loop.invariant.3)

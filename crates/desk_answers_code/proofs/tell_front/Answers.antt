@@ -5,8 +5,8 @@ use mathlib.Core.List.{List, map}
 use Prim.Native.Nat.{ℕ, suc, ◌+◌, ◌≤◌}
 use lib.ListN.{length, get_or, take, drop, replicate}
 use lib.Seq.{length-take-le}
-use Rattle.memories.specs.Lent.{held}
-use Rattle.memories.specs.Memories.{Memories, memories}
+use Rattle.memories.specs.Lent.{holds}
+use Rattle.memories.specs.Memories.{Memories}
 use Rattle.boot.specs.Session.{gathered}
 use Rattle.boot.specs.Calls.{State, Byte}
 use Rattle.boot.specs.Promise.{Left, left, state_of, Given, given_byte}
@@ -19,10 +19,10 @@ use Rattle.desk_answers_code.proofs.tell_front.Goals.{After-take_front-front}
 
 -- the memories before the call that was made, and after it
 abbrev before : After-take_front-front → Memories
-before c = held c.args.flash c.args.sram c.args.usd
+before c = holds c.args.lent.now
 
 abbrev after : After-take_front-front → Memories
-after c = let last = c.take_front-front.new in memories last.flash last.sram last.usd
+after c = holds c.take_front-front.new.lent
 
 -- the bytes that were only gathered, the session with them, and the byte behind them
 abbrev silent : After-take_front-front → ℕ
@@ -43,7 +43,7 @@ leaves c = left c.take_front-front.result.taken (after c) c.take_front-front.new
 
 -- its reply is no longer than the room lent for it
 fits : (c : After-take_front-front) → c.take_front-front.result.taken.length ≤ desk_room
-fits c = took_fits (given c) (leaves c) c.take_front-front.ensures.took c.take_front-front.auto.buffer
+fits c = took_fits (given c) (leaves c) c.take_front-front.ensures.took.took c.take_front-front.auto.buffer
 
 -- and is as long as is said
 long : (c : After-take_front-front)
@@ -67,7 +67,7 @@ returns c =
     let taken = (goal.at.returns c).After-take_front-front in
     let noted = c.note-noted in
     let printed = c.bytes-end in
-    let k = c.take_front-front.ensures in
+    let k = c.take_front-front.ensures.took in
     let end = rw (long taken) at printed.ensures.0 in
     let lent : List ℕ = replicate desk_room 0 in
     let begun : State = state_of c.args.begun.session (before taken) in
@@ -89,4 +89,5 @@ returns c =
           (leaves taken).buffer k.took c.args.begun.noted noted.result c.args.notes.now noted.new.notes
           noted.ensures.noted));
       fits = (omega (arith, fits taken, end), noted.ensures.few);
+      same = c.take_front-front.ensures.same;
     }

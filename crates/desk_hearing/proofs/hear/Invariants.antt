@@ -2,7 +2,7 @@
 use mathlib.Core.Path.{◌≡◌}
 use Prim.Native.Nat.{◌≤◌, ◌+◌, ◌*◌}
 use lib.ListN.{length}
-use Rattle.memories.specs.Memories.{memories}
+use Rattle.memories.specs.Lent.{holds, StillLent}
 use Rattle.desk_answers.specs.Desk.{kept_characters, hears}
 use Rattle.desk_hearing.specs.Promise.{desk_of}
 use Rattle.desk_answers.specs.Promise.{Continues, character_room}
@@ -13,8 +13,9 @@ invariant-loop-left l = (length l.line ≡ kept_characters)
     × (l.here.kept ≤ kept_characters)
     × (l.here.lines + length l.left ≤ l.initial.here.lines + length l.initial.left)
     × (l.here.end + character_room * (l.here.kept + length l.left) ≤ length l.initial.out)
-    × Continues (hears l.left (desk_of l.here l.line (memories l.flash l.sram l.usd))) l.here.end l.out
-    (hears l.initial.left (desk_of l.initial.here l.initial.line (memories l.initial.flash l.initial.sram l.initial.usd))) l.initial.here.end l.initial.out
+    × Continues (hears l.left (desk_of l.here l.line (holds l.lent))) l.here.end l.out
+    (hears l.initial.left (desk_of l.initial.here l.initial.line (holds l.initial.lent))) l.initial.here.end l.initial.out
+    × StillLent l.initial.lent l.lent
 
 abbrev pub decreases-loop-left : goal.decreases-loop-left
 decreases-loop-left l = length l.left
