@@ -1,29 +1,28 @@
 -- Document 01, "The board on the desk", in its own numbers: the regions, the sectors, and what user system data says.
-use Rattle.std.specs.Prelude.{ℕ, ◌+◌, ◌/◌, ◌%◌, ◌<◌, ◌≡◌, true, false, not, List, [], ◌∷◌, map, get_or, eqb}
+use Rattle.std.specs.Prelude.{ℕ, ◌+◌, ◌/◌, ◌%◌, ◌<◌, ◌≡◌, true, false, not, List, [], ◌∷◌, map, get_or, eqb, None}
 use Rattle.words.specs.Bytes.{bit}
 use Rattle.words.specs.Lists.{count_from}
 use Rattle.board.specs.Board.{address}
 use Rattle.board.specs.Quantities.{sector, start_of, is_sector}
-use Rattle.board.specs.Regions.{place_of}
+use Rattle.board.specs.Regions.{inside, place_of}
 use Rattle.board.specs.View.{view_of, write_protected}
-use Rattle.board.specs.declared.Place.TheVariants.{In, Nowhere}
 use Rattle.board.specs.declared.Region.TheVariants.{Flash, Sram, Usd}
 use Rattle.board.specs.declared.Sector.{Sector}
 
 -- where bytes lie, and which sectors there are
 pub record Rulings : Type 0 where
   -- flash, SRAM and user system data, each whole
-  pub flash : place_of (address 0x08000000) 32768 ≡ In Flash 0
-  pub sram : place_of (address 0x20000000) 8192 ≡ In Sram 0
-  pub usd : place_of (address 0x1FFFF800) 64 ≡ In Usd 0
+  pub flash : place_of (address 0x08000000) 32768 ≡ inside Flash 0
+  pub sram : place_of (address 0x20000000) 8192 ≡ inside Sram 0
+  pub usd : place_of (address 0x1FFFF800) 64 ≡ inside Usd 0
   -- one byte more is in no region
-  pub flash_ends : place_of (address 0x08000000) 32769 ≡ Nowhere
-  pub sram_ends : place_of (address 0x20000000) 8193 ≡ Nowhere
-  pub usd_ends : place_of (address 0x1FFFF800) 65 ≡ Nowhere
+  pub flash_ends : place_of (address 0x08000000) 32769 ≡ None
+  pub sram_ends : place_of (address 0x20000000) 8193 ≡ None
+  pub usd_ends : place_of (address 0x1FFFF800) 65 ≡ None
   -- and neither is the byte before
-  pub before_flash : place_of (address 0x07FFFFFF) 1 ≡ Nowhere
-  pub before_sram : place_of (address 0x1FFFFFFF) 1 ≡ Nowhere
-  pub before_usd : place_of (address 0x1FFFF7FF) 1 ≡ Nowhere
+  pub before_flash : place_of (address 0x07FFFFFF) 1 ≡ None
+  pub before_sram : place_of (address 0x1FFFFFFF) 1 ≡ None
+  pub before_usd : place_of (address 0x1FFFF7FF) 1 ≡ None
   -- 32 sectors, numbered from 0
   pub sectors : map is_sector (sector 31 ∷ sector 32 ∷ []) ≡ true ∷ false ∷ []
   -- of 1,024 bytes

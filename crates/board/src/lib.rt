@@ -73,11 +73,11 @@ pub enum Region {
     Usd,
 }
 
-// Where some bytes lie: all in one region, from an offset on, or not.
+// Where some bytes lie, all in one region: the region, and their offset in it.
 #[derive(Clone, Copy)]
-pub enum Place {
-    In(Region, usize),
-    Nowhere,
+pub struct Place {
+    pub region: Region,
+    pub at: usize,
 }
 
 impl Region {

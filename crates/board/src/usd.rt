@@ -36,27 +36,29 @@ impl Sector {
 
 impl View {
     // What of user system data the board may look at.
+    #[tactic(auto, unfolding(crate::specs::View::view_of))]
     pub fn of(usd: &[u8]) -> View
         requires { length usd.now ≡ (extent_of Usd).bytes }
         ensures { result ≡ view_of usd.now }
     {
         let at = Board::SECTOR_BITS;
-        let bits = [usd[at], usd[at + 1], usd[at + 2], usd[at + 3]];
+        let mut bits = [0; Board::BIT_BYTES];
+        bits.copy_from_slice(&usd[at..at + Board::BIT_BYTES]);
         View {
             locked: protection_on(usd),
-            bits: bits,
+            bits,
         }
     }
 
     // Whether a sector is write-protected.
+    #[tactic(auto, unfolding(crate::specs::View::write_protected))]
     pub fn write_protected(self, sector: Sector) -> bool
-        requires { T (is_sector sector) }
         ensures { result ≡ write_protected self sector }
     {
         let bits = self.bits;
-        let byte = sector.bit_index();
         let bit = sector.bit_place();
-        (bits[byte] >> bit) & 1 == 0
+        let byte = bits.get(sector.bit_index()).copied().unwrap_or(0);
+        (byte >> bit) & 1 == 0
     }
 
     // Whether one of n sectors in order is write-protected.
@@ -64,14 +66,10 @@ impl View {
         requires { first.0 + n ≤ sectors.count }
         ensures { result ≡ any (write_protected self) (sectors_from first n) }
     {
-        let mut k = first.0;
-        let mut left = n;
-        while 0 < left {
+        for k in first.0..first.0 + n as u16 {
             if self.write_protected(Sector(k)) {
                 return true;
             }
-            k += 1;
-            left -= 1;
         }
         false
     }

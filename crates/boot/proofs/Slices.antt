@@ -8,23 +8,23 @@ use lib.Dec.{T, eqb, leb}
 use lib.ListN.{length, take, drop, get_or, length-append, length-drop}
 use lib.Seq.{drop-length, drop-drop}
 use borrow.Author.Tests.{eq-eqb, ne_eqb}
-use Rattle.std.specs.Prelude.{if◌then◌else◌}
+use Rattle.std.specs.Prelude.{Ok, Err}
 use Rattle.words.specs.Lists.{join}
 use Rattle.words.specs.Over.{put, newer}
 use Rattle.words.proofs.Over.{over_none, put_then, put_front, length_over}
 use Rattle.words.proofs.Slices.{to_the_end}
-use Rattle.words.proofs.Tests.{both_left, both_right, holds_true}
-use Rattle.memories.specs.Memories.{Memories, memories, proper}
-use Rattle.command.specs.Why.{no_reason}
+use Rattle.words.proofs.Tests.{holds_true}
+use Rattle.memories.specs.Memories.{Memories, proper}
 use Rattle.uart.specs.Conversation.{uart_room}
-use Rattle.boot.specs.Session.{on, sound, gathered}
-use Rattle.boot.specs.Causes.{cause_no, cause_of, accepts}
-use Rattle.boot.specs.Calls.{State, Byte, Outcome, view_in, cause_for, decide, sent, perform, refused, call, outcomes, run}
+use Rattle.boot.specs.Session.{sound, gathered}
+use Rattle.boot.specs.Causes.{accepts}
+use Rattle.boot.specs.Calls.{State, Byte, Outcome, cause_for, decide, sent, perform, call, outcomes, run}
 use Rattle.boot.specs.Gathering.{Gathers}
 use Rattle.boot.specs.Promise.{Left, left, state_of, unanswered_taken, outcome, Leaves}
 use Rattle.boot.specs.Slices.{one_by_one, after_bytes, how_many, Nack, no_nack, later, as_one, taking, slice_cause, call_bytes, GivenBytes, given_bytes}
 use Rattle.boot.specs.Slices.{slice_outcome, LeavesBytes, TookBytes, nack_of, joined, TookFront}
-use Rattle.carriers.specs.declared.Carrier.TheVariants.{Uart}
+use Rattle.boot.specs.Causes.{Judged}
+use Rattle.boot.specs.Causes.{accepted}
 use Rattle.boot.specs.declared.Cause.{Cause}
 use Rattle.boot.specs.declared.Session.{Session}
 use Rattle.boot.specs.declared.Taken.{Taken}
@@ -65,6 +65,15 @@ ends i at buffer nack room bs p = ended (how_many room (one_by_one bs p)) i at b
 abbrev pub here : ℕ → ℕ → List ℕ → Nack → State → Ending
 here i at buffer nack p = record { count = i; end = at; buffer = buffer; nack = nack; state = p }
 
+-- what is left to take behind some bytes of a slice, after what their calls have handed back
+abbrev pub left_over : List ℕ → Memories → List ℕ → Taken → ℕ → Ending
+left_over bytes m buffer done count =
+    ends count done.length buffer (nack_of done) (length buffer - done.length) (drop count bytes) (state_of done.session m)
+
+-- nothing is
+abbrev pub nothing_left : Memories → List ℕ → Taken → ℕ → Ending
+nothing_left m buffer done count = here count done.length buffer (nack_of done) (state_of done.session m)
+
 -- where there are no bytes
 pub none_left : (i at : ℕ) (buffer : List ℕ) (nack : Nack) (room : ℕ) (p : State) → ends i at buffer nack room [] p ≡ here i at buffer nack p
 unfolding how_many outcomes run
@@ -72,6 +81,14 @@ none_left i at buffer nack room p =
     let c : i + 0 ≡ i = omega arith in
     let e : at + 0 ≡ at = omega arith in
     λ k. record { count = c k; end = e k; buffer = over_none newer buffer at k; nack = nack; state = p }
+
+-- nothing is left behind the last of them
+pub all_taken : (bytes : List ℕ) (m : Memories) (buffer : List ℕ) (done : Taken) (count : ℕ) → count ≡ length bytes
+    → left_over bytes m buffer done count ≡ nothing_left m buffer done count
+all_taken bytes m buffer done count e =
+    ap (λ (bs : List ℕ). ends count done.length buffer (nack_of done) (length buffer - done.length) bs (state_of done.session m))
+    (ap (λ (n : ℕ). drop n bytes) e ∙ drop-length bytes)
+    ∙ none_left count done.length buffer (nack_of done) (length buffer - done.length) (state_of done.session m)
 
 module _ (room b : ℕ) (p : State) where
   -- one byte's call
@@ -306,18 +323,29 @@ ends_leaves s m lent bs {r} e h whole =
       };
     }
 
-module _ (g : GivenBytes) (c : Cause) (ec : c ≡ slice_cause g.state) where
+-- the same of what is left when no call has handed back anything
+pub left_leaves : (s : Session) (m : Memories) (lent bs : List ℕ) (first : Taken) {r : Taken} {n : ℕ} {m' : Memories} {buffer : List ℕ}
+    → first ≡ unanswered_taken accepted s → r.number ≡ first.number → r.length ≤ length lent
+    → left_over bs m lent first 0 ≡ nothing_left m' buffer r n
+    → LeavesBytes (taking (length lent) bs (state_of s m)) lent n (left r m' buffer)
+left_leaves s m lent bs first e number fits whole =
+    let room : length lent ≡ length lent - 0 = omega arith in
+    ends_leaves s m lent bs (number ∙ ap (λ (t : Taken). t.number) e) fits
+    (sym (ap (λ (k : ℕ). ends 0 0 lent no_nack k bs (state_of s m)) room
+    ∙ ap (λ (t : Taken). left_over bs m lent t 0) (sym e) ∙ whole))
+
+module _ (g : GivenBytes) (c : Judged) (ec : c ≡ slice_cause g.state) where
   -- a slice that is not refused is taken
-  pub slice_taken : {n : ℕ} {l : Left} → accepts c ≡ true → LeavesBytes (taking (length g.buffer) g.bytes g.state) g.buffer n l
+  pub slice_taken : {n : ℕ} {l : Left} {u : Unit {0}} → c ≡ Ok u → LeavesBytes (taking (length g.buffer) g.bytes g.state) g.buffer n l
       → TookBytes g n l
   unfolding slice_outcome call_bytes
-  slice_taken h k = rw (← ec, h) k
+  slice_taken e k = rw (← ec, e) k
 
   -- one that is leaves everything as it was
-  pub slice_refused : {r : Taken} → accepts c ≡ false → r ≡ unanswered_taken c g.state.session
+  pub slice_refused : {r : Taken} {k : Cause} → c ≡ Err k → r ≡ unanswered_taken (Err k) g.state.session
       → TookBytes g 0 (left r g.state.memories g.buffer)
   unfolding slice_outcome call_bytes
-  slice_refused h e = rw (← ec, h) (record { count = refl; leaves = refused_leaves g.state g.buffer e })
+  slice_refused e er = rw (← ec, e) (record { count = refl; leaves = refused_leaves g.state g.buffer er })
 
 -- a slice that is not refused finds a sound session
 pub slice_sound : (p : State) → accepts (slice_cause p) ≡ true → T (sound p.session)

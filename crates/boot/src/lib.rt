@@ -9,16 +9,15 @@ pub mod slice;
 pub mod steps;
 pub mod take;
 
-ghost use Rattle.std.specs.Prelude.{◌≡◌};
+ghost use Rattle.std.specs.Prelude.{◌≡◌, Err};
 ghost use Rattle.boot.specs.Causes.{cause_no};
 
 // The number of a call that is accepted.
 pub const ACCEPTED: u8 = 0;
 
-// Why a call is refused, and that it is not.
+// Why a call is refused.
 #[derive(Clone, Copy)]
 pub enum Cause {
-    Accepted,
     WrongMemory,
     ShortReply,
     BadFrame,
@@ -51,10 +50,9 @@ pub struct Taken {
 impl Cause {
     // The number of the cause.
     pub fn number(self) -> u8
-        ensures { result ≡ cause_no self }
+        ensures { result ≡ cause_no (Err self) }
     {
         match self {
-            Cause::Accepted => ACCEPTED,
             Cause::WrongMemory => 1,
             Cause::ShortReply => 2,
             Cause::BadFrame => 3,

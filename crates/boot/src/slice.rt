@@ -1,13 +1,14 @@
 // The call that takes a slice of UART bytes: document 02, Wish 4.
 ghost use Rattle.std.specs.Prelude.{◌≡◌, ◌+◌, ◌≤◌, ◌<◌, ◌^◌, length, take};
-ghost use Rattle.memories.specs.Lent.{were, are};
+ghost use Rattle.memories.specs.Lent.{holds, had, has, Same};
 ghost use Rattle.memories.specs.Effects.{staged_bytes};
 ghost use Rattle.boot.specs.Session.{gathered};
 ghost use Rattle.boot.specs.Promise.{left, state_of};
-ghost use Rattle.boot.specs.Slices.{taking, given_bytes, LeavesBytes, TookBytes, joined, TookFront};
+ghost use Rattle.boot.specs.Slices.{taking, slice_cause, given_bytes, LeavesBytes, TookBytes, joined, TookFront};
 
-use crate::{ACCEPTED, Cause, Session, Taken, gathering, take};
+use crate::{ACCEPTED, Cause, Session, Taken, gathering};
 use command::reason::NO_REASON;
+use memories::Lent;
 
 // The front of a slice: how many of its bytes were only gathered, and what the call of the byte behind them handed back.
 #[derive(Clone, Copy)]
@@ -55,23 +56,17 @@ impl Session {
     }
 
     // Takes the front of a slice: at once the bytes that are only gathered, and by a call of its own the byte behind them.
-    pub fn take_front(
-        self,
-        bytes: &[u8],
-        flash: &mut [u8],
-        sram: &mut [u8],
-        usd: &mut [u8],
-        buffer: &mut [u8],
-    ) -> Front
+    pub fn take_front(self, bytes: &[u8], lent: &mut Lent<'_>, buffer: &mut [u8]) -> Front
         requires { 0 < length bytes.now }
-        ensures { TookFront (given_bytes self bytes.now (were flash sram usd) buffer.old)
-            result.silent (left result.taken (are flash sram usd) buffer.new) }
+        ensures took { TookFront (given_bytes self bytes.now (had lent) buffer.old) result.silent
+            (left result.taken (has lent) buffer.new) }
+        ensures same { Same lent }
     {
-        let right = take::lengths_right(flash.len(), sram.len(), usd.len());
+        let right = lent.lengths_right();
         let ready = right & uart::has_room(buffer.len());
         let silent = gathering::silent_bytes(self, bytes.len() - 1, ready);
         let here = self.gather_first(bytes, silent);
-        let taken = here.take_byte(bytes[silent], flash, sram, usd, buffer);
+        let taken = here.take_byte(bytes[silent], lent, buffer);
         Front {
             silent: silent,
             taken: taken,
@@ -79,25 +74,19 @@ impl Session {
     }
 
     // Takes the bytes of a slice, front by front, until one is refused: for a board that runs, or for the room that is left.
-    fn take_on(
-        self,
-        bytes: &[u8],
-        flash: &mut [u8],
-        sram: &mut [u8],
-        usd: &mut [u8],
-        buffer: &mut [u8],
-    ) -> TakenBytes
-        ensures { LeavesBytes (taking (length buffer.old) bytes.now (state_of self (were flash sram usd)))
-            buffer.old result.count (left result.call (are flash sram usd) buffer.new) }
+    fn take_on(self, bytes: &[u8], lent: &mut Lent<'_>, buffer: &mut [u8]) -> TakenBytes
+        ensures leaves { LeavesBytes (taking (length buffer.old) bytes.now (state_of self (had lent)))
+            buffer.old result.count (left result.call (has lent) buffer.new) }
+        ensures same { Same lent }
     {
         let n = bytes.len();
         // Nothing is taken yet.
-        let mut done = self.unanswered(Cause::Accepted);
+        let mut done = self.unanswered(Ok(()));
         let mut count = 0;
         while count < n {
             let here = done.session;
             let at = done.length;
-            let front = here.take_front(&bytes[count..], flash, sram, usd, &mut buffer[at..]);
+            let front = here.take_front(&bytes[count..], lent, &mut buffer[at..]);
             let taken = front.taken;
             let number = taken.number;
             done = done.followed_by(taken);
@@ -117,26 +106,26 @@ impl Session {
         }
     }
 
-    // Takes a slice of UART bytes, with the memories and the buffer for all replies that are lent.
-    pub fn take_bytes(
-        self,
-        bytes: &[u8],
-        flash: &mut [u8],
-        sram: &mut [u8],
-        usd: &mut [u8],
-        buffer: &mut [u8],
-    ) -> TakenBytes
-        ensures { TookBytes (given_bytes self bytes.now (were flash sram usd) buffer.old)
-            result.count (left result.call (are flash sram usd) buffer.new) }
+    // Why a slice is refused, if it is: as a byte that has room enough.
+    #[tactic(auto, unfolding(crate::specs::Slices::slice_cause))]
+    fn slice_cause(self, lent: &Lent<'_>) -> Result<(), Cause>
+        ensures { result ≡ slice_cause (state_of self (holds lent.now)) }
     {
-        let cause = self.byte_cause(flash.len(), sram.len(), usd.len(), uart::ROOM);
-        let clear = cause.accepts();
-        if !clear {
+        self.byte_cause(lent, uart::ROOM)
+    }
+
+    // Takes a slice of UART bytes, with the memories and the buffer for all replies that are lent.
+    pub fn take_bytes(self, bytes: &[u8], lent: &mut Lent<'_>, buffer: &mut [u8]) -> TakenBytes
+        ensures took { TookBytes (given_bytes self bytes.now (had lent) buffer.old) result.count
+            (left result.call (has lent) buffer.new) }
+        ensures same { Same lent }
+    {
+        if let Err(cause) = self.slice_cause(lent) {
             return TakenBytes {
                 count: 0,
-                call: self.unanswered(cause),
+                call: self.unanswered(Err(cause)),
             };
         }
-        self.take_on(bytes, flash, sram, usd, buffer)
+        self.take_on(bytes, lent, buffer)
     }
 }

@@ -1,97 +1,83 @@
 // The two calls that take input: refused for the first cause that holds, or decided, said and carried out.
 ghost use Rattle.std.specs.Prelude.{◌≡◌, true, T, leb, length};
-ghost use Rattle.memories.specs.Lent.{were, are};
-ghost use Rattle.memories.specs.Memories.{lengths_right};
+ghost use Rattle.memories.specs.Lent.{holds, had, has, Same};
+ghost use Rattle.memories.specs.Memories.{proper};
 ghost use Rattle.uart.specs.Conversation as UC;
 ghost use Rattle.can.specs.Conversation as CC;
 ghost use Rattle.frames.specs.Frames.{classic, is_frame};
 ghost use Rattle.boot.specs.Session.{sound};
-ghost use Rattle.boot.specs.Causes.{accepts, cause_of};
+ghost use Rattle.boot.specs.Causes.{cause_of};
 ghost use Rattle.boot.specs.Calls.{bears};
 ghost use Rattle.boot.specs.Promise.{left, given_byte, given_frame, accepted_taken, unanswered_taken, Took};
 
-use crate::{Cause, Session, Taken};
-use board::{Board, View};
+use crate::{ACCEPTED, Cause, Session, Taken};
 use carriers::Carrier;
 use command::Decision;
 use command::reason::NO_REASON;
-
-// Whether flash, SRAM and USD have their lengths.
-pub fn lengths_right(flash: usize, sram: usize, usd: usize) -> bool
-    ensures { result ≡ lengths_right flash sram usd }
-{
-    (flash == Board::FLASH_BYTES) & (sram == Board::SRAM_BYTES) & (usd == Board::USD_BYTES)
-}
-
-impl Cause {
-    // Whether the call is accepted.
-    pub(crate) fn accepts(self) -> bool
-        ensures { result ≡ accepts self }
-    {
-        match self {
-            Cause::Accepted => true,
-            _ => false,
-        }
-    }
-}
+use memories::Lent;
 
 impl Session {
     // The cause of what only the session tells.
-    fn own_cause(self) -> Cause
+    #[tactic(auto, unfolding(crate::specs::Causes::cause_of))]
+    fn own_cause(self) -> Result<(), Cause>
         ensures { result ≡ cause_of true true true self }
     {
         let sound = self.sound();
         if !sound {
-            return Cause::UnsoundSession;
+            return Err(Cause::UnsoundSession);
         }
         let running = self.on(Carrier::Running);
         if running {
-            Cause::BoardRunning
-        } else {
-            Cause::Accepted
+            return Err(Cause::BoardRunning);
         }
+        Ok(())
     }
 
     // The first cause that holds.
-    pub(crate) fn cause(self, memories: bool, room: bool, frame: bool) -> Cause
+    #[tactic(auto, unfolding(crate::specs::Causes::cause_of))]
+    pub(crate) fn cause(self, memories: bool, room: bool, frame: bool) -> Result<(), Cause>
         ensures { result ≡ cause_of memories room frame self }
     {
         if !memories {
-            return Cause::WrongMemory;
+            return Err(Cause::WrongMemory);
         }
         if !room {
-            return Cause::ShortReply;
+            return Err(Cause::ShortReply);
         }
         if !frame {
-            return Cause::BadFrame;
+            return Err(Cause::BadFrame);
         }
         self.own_cause()
     }
 
-    // Why a byte is refused, if it is, given the lengths of what is lent.
-    pub(crate) fn byte_cause(self, flash: usize, sram: usize, usd: usize, room: usize) -> Cause
-        ensures { result ≡ cause_of (lengths_right flash sram usd) (leb UC.uart_room room) true self }
+    // Why a byte is refused, if it is, given the memories and the room that are lent.
+    pub(crate) fn byte_cause(self, lent: &Lent<'_>, room: usize) -> Result<(), Cause>
+        ensures { result ≡ cause_of (proper (holds lent.now)) (leb UC.uart_room room) true self }
     {
-        self.cause(lengths_right(flash, sram, usd), uart::has_room(room), true)
+        self.cause(lent.lengths_right(), uart::has_room(room), true)
     }
 
-    // Why a frame is refused, if it is, given the lengths of what else is lent.
-    fn frame_cause(self, frame: &[u8], flash: usize, sram: usize, usd: usize, room: usize) -> Cause
-        ensures { result ≡ cause_of (lengths_right flash sram usd) (leb CC.can_room room) (is_frame classic frame.now) self }
+    // Why a frame is refused, if it is, given the memories and the room that are lent.
+    fn frame_cause(self, frame: &[u8], lent: &Lent<'_>, room: usize) -> Result<(), Cause>
+        ensures { result ≡ cause_of (proper (holds lent.now)) (leb CC.can_room room) (is_frame classic frame.now) self }
     {
         self.cause(
-            lengths_right(flash, sram, usd),
+            lent.lengths_right(),
             can::has_room(room),
             frames::is_frame(frame),
         )
     }
 
-    // What is handed back where nothing is taken: the cause's number, no reply, no reason, and the session stays.
-    pub(crate) fn unanswered(self, cause: Cause) -> Taken
+    // What is handed back where nothing is taken: the number of the cause or of none, no reply, no reason, and the session stays.
+    pub(crate) fn unanswered(self, cause: Result<(), Cause>) -> Taken
         ensures { result ≡ unanswered_taken cause self }
     {
+        let number = match cause {
+            Ok(()) => ACCEPTED,
+            Err(cause) => cause.number(),
+        };
         Taken {
-            number: cause.number(),
+            number: number,
             length: 0,
             reason: NO_REASON,
             place: 0,
@@ -116,7 +102,7 @@ impl Session {
         let reply = decision.reply;
         let reason = reply.reason();
         Taken {
-            number: Cause::Accepted.number(),
+            number: ACCEPTED,
             length: length,
             reason: reason,
             place: self.place(carrier, reason),
@@ -125,55 +111,38 @@ impl Session {
     }
 
     // Takes one UART byte, with the memories and the reply buffer that are lent.
-    pub fn take_byte(
-        self,
-        byte: u8,
-        flash: &mut [u8],
-        sram: &mut [u8],
-        usd: &mut [u8],
-        buffer: &mut [u8],
-    ) -> Taken
-        ensures { Took (given_byte self byte (were flash sram usd) buffer.old) (left result (are flash sram usd) buffer.new) }
+    pub fn take_byte(self, byte: u8, lent: &mut Lent<'_>, buffer: &mut [u8]) -> Taken
+        ensures took { Took (given_byte self byte (had lent) buffer.old) (left result (has lent) buffer.new) }
+        ensures same { Same lent }
     {
-        let cause = self.byte_cause(flash.len(), sram.len(), usd.len(), buffer.len());
-        let clear = cause.accepts();
-        if !clear {
-            return self.unanswered(cause);
+        if let Err(cause) = self.byte_cause(lent, buffer.len()) {
+            return self.unanswered(Err(cause));
         }
         let taken = self.gather_byte(byte);
-        let decision = self.decide_byte(byte, taken, View::of(usd));
+        let decision = self.decide_byte(byte, taken, lent.view());
         let reply = decision.reply;
         let change = decision.change;
-        let length = reply::in_bytes::say(reply, flash, sram, usd, buffer);
-        memories_code::carry_out(change, &taken.staged, flash, sram, usd);
+        let length = reply::in_bytes::say(reply, lent, buffer);
+        memories_code::carry_out(change, &taken.staged, lent);
         self.accepted(Carrier::Uart, taken, decision, length)
     }
 
     // Takes one CAN frame, with the memories and the reply buffer that are lent.
-    pub fn take_frame(
-        self,
-        frame: &[u8],
-        flash: &mut [u8],
-        sram: &mut [u8],
-        usd: &mut [u8],
-        buffer: &mut [u8],
-    ) -> Taken
-        ensures { Took (given_frame self frame.now (were flash sram usd) buffer.old)
-            (left result (are flash sram usd) buffer.new) }
+    pub fn take_frame(self, frame: &[u8], lent: &mut Lent<'_>, buffer: &mut [u8]) -> Taken
+        ensures took { Took (given_frame self frame.now (had lent) buffer.old) (left result (has lent) buffer.new) }
+        ensures same { Same lent }
     {
-        let cause = self.frame_cause(frame, flash.len(), sram.len(), usd.len(), buffer.len());
-        let clear = cause.accepts();
-        if !clear {
-            return self.unanswered(cause);
+        if let Err(cause) = self.frame_cause(frame, lent, buffer.len()) {
+            return self.unanswered(Err(cause));
         }
         let id = frames::id(frame);
         let carried = frames::carried(frame);
         let taken = self.gather(carried);
-        let decision = self.decide_frame(id, carried, taken, View::of(usd));
+        let decision = self.decide_frame(id, carried, taken, lent.view());
         let reply = decision.reply;
         let change = decision.change;
-        let length = reply::in_frames::say(reply, self.bears(id), flash, sram, usd, buffer);
-        memories_code::carry_out(change, &taken.staged, flash, sram, usd);
+        let length = reply::in_frames::say(reply, self.bears(id), lent, buffer);
+        memories_code::carry_out(change, &taken.staged, lent);
         self.accepted(Carrier::Can, taken, decision, length)
     }
 }

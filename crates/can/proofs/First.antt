@@ -5,13 +5,13 @@ use mathlib.Core.Bool.{Bool, true, false, not, ◌&&◌, ◌||◌}
 use mathlib.Core.List.{List, [], ◌∷◌, ◌++◌}
 use lib.Dec.{T, eqb, leb}
 use lib.ListN.{length, get_or}
-use Rattle.std.specs.Prelude.{if◌then◌else◌}
+use Rattle.std.specs.Prelude.{if◌then◌else◌, Option, Some, None, Ok, Err}
 use Rattle.words.specs.Bytes.{number}
 use Rattle.board.specs.Board.{sectors}
 use Rattle.board.specs.Quantities.{count_of, less_one}
 use Rattle.board.specs.declared.View.{View}
 use Rattle.command.specs.Commands.{code, can_commands, look_up}
-use Rattle.command.specs.Decision.{answer}
+use Rattle.command.specs.Decision.{Verdict, answer}
 use Rattle.command.specs.Progress.{Progress, progress_at, staged_with, short, overfull}
 use Rattle.command.specs.Tests.{Test, ◌when◌, only_if, first_reason, GivesFirst, in_order, one_of, reasons_of}
 use Rattle.command.specs.Why.{reason, reason_of}
@@ -19,12 +19,8 @@ use Rattle.command.specs.declared.Command.{Command}
 use Rattle.command.specs.declared.Command.TheVariants.{GetCommands, GetVersion, GetDeviceId, ReadMemory, Jump, WriteMemory, Erase, ProgramProtect}
 use Rattle.command.specs.declared.Command.TheVariants.{ProgramUnprotect, AccessProtect, AccessUnprotect, FirmwareCrc, ResetDevice, Speed}
 use Rattle.command.specs.declared.Decision.{Decision}
-use Rattle.command.specs.declared.Lookup.{Lookup}
-use Rattle.command.specs.declared.Lookup.TheVariants.{Known, Unknown}
 use Rattle.command.specs.declared.Next.TheVariants.{Gather}
 use Rattle.command.specs.declared.FixedReply.TheVariants.{Silence}
-use Rattle.command.specs.declared.Verdict.{Verdict}
-use Rattle.command.specs.declared.Verdict.TheVariants.{Fine, No}
 use Rattle.command.specs.declared.Why.{Why}
 use Rattle.command.specs.declared.Why.TheVariants.{BadComplement, UnknownCommand, AccessProtected, OtherFrame, BadRange, BadSpeed}
 use Rattle.command.proofs.First.{precedes_all, unrefused, refused_first, passed, forbidden, guarded, awaited, RefusesFirst, judged_first}
@@ -44,8 +40,8 @@ use Rattle.can.specs.declared.Step.TheVariants.{Idle, WriteData, EraseList, Prot
 
 erased_first : (v : Verdict) {ts : List Test} → RefusesFirst v ts → GivesFirst (erased_or_not v) ts
 unfolding erased_or_not
-erased_first Fine h = record { first = h.first }
-erased_first (No w) h = record { first = h.first }
+erased_first (Ok u) h = record { first = h.first }
+erased_first (Err w) h = record { first = h.first }
 
 selected_first : (view : View) (n : ℕ)
     → GivesFirst (selected view (selector_of n)) (selector_tests n ++ only_if (special n) (erase_all_tests view n))
@@ -98,12 +94,12 @@ after view d FirmwareCrc = (tt, tt)
 after view d ResetDevice = (tt, tt)
 after view d Speed = (tt, tt)
 
-commanded_first : (view : View) (d : List ℕ) (l : Lookup) → GivesFirst (commanded view d l) (frame_tests view d l)
+commanded_first : (view : View) (d : List ℕ) (l : Option Command) → GivesFirst (commanded view d l) (frame_tests view d l)
 unfolding commanded
-commanded_first view d (Known c) =
+commanded_first view d (Some c) =
     forbidden (dlc_fits c (length d)) BadComplement _ (after view d c).0
     (passed UnknownCommand (unless_first view c (data_tests view d c) (after view d c).1 (obeyed_first view d c)))
-commanded_first view d Unknown = passed BadComplement (refused_first UnknownCommand _ tt)
+commanded_first view d None = passed BadComplement (refused_first UnknownCommand _ tt)
 
 -- ---- frames that are gathered
 
@@ -133,10 +129,10 @@ heard_first s p view f =
 
 -- ---- the table
 
-ordered : (s : Step) (l : Lookup) → T (in_order (possible s l))
-ordered Idle (Known c) = by_command c
+ordered : (s : Step) (l : Option Command) → T (in_order (possible s l))
+ordered Idle (Some c) = by_command c
   where
-    by_command : (c : Command) → T (in_order (possible Idle (Known c)))
+    by_command : (c : Command) → T (in_order (possible Idle (Some c)))
     by_command GetCommands = tt
     by_command GetVersion = tt
     by_command GetDeviceId = tt
@@ -151,15 +147,15 @@ ordered Idle (Known c) = by_command c
     by_command FirmwareCrc = tt
     by_command ResetDevice = tt
     by_command Speed = tt
-ordered Idle Unknown = tt
+ordered Idle None = tt
 ordered WriteData l = tt
 ordered EraseList l = tt
 ordered ProtectList l = tt
 
-frame_tested : (view : View) (d : List ℕ) (l : Lookup) → reasons_of (frame_tests view d l) ≡ possible Idle l
-frame_tested view d (Known c) = by_command c
+frame_tested : (view : View) (d : List ℕ) (l : Option Command) → reasons_of (frame_tests view d l) ≡ possible Idle l
+frame_tested view d (Some c) = by_command c
   where
-    by_command : (c : Command) → reasons_of (frame_tests view d (Known c)) ≡ possible Idle (Known c)
+    by_command : (c : Command) → reasons_of (frame_tests view d (Some c)) ≡ possible Idle (Some c)
     by_command GetCommands = refl
     by_command GetVersion = refl
     by_command GetDeviceId = refl
@@ -174,7 +170,7 @@ frame_tested view d (Known c) = by_command c
     by_command FirmwareCrc = refl
     by_command ResetDevice = refl
     by_command Speed = refl
-frame_tested view d Unknown = refl
+frame_tested view d None = refl
 
 tested : (s : Step) (p : Progress) (view : View) (f : Frame) → reasons_of (tests s p view f) ≡ possible s (look_up can_commands f.id)
 tested Idle p view f = frame_tested view (carried f) (look_up can_commands f.id)

@@ -7,21 +7,18 @@ use native.Mathlib.Omega.{arith}
 use lib.Dec.{T, leb, ltb, eqb→eq}
 use lib.ListN.{length, get_or, drop}
 use borrow.Author.Tests.{le-leb, lt-ltb, eq-eqb}
+use Rattle.std.specs.Prelude.{Option, Some, None, Ok, Err}
 use Rattle.words.specs.Bytes.{number}
 use Rattle.board.specs.Quantities.{address_bytes, count_sent}
 use Rattle.board.specs.declared.View.{View}
 use Rattle.command.specs.Progress.{Progress, progress_at, staged_with, short}
-use Rattle.command.specs.Decision.{answer, nack}
+use Rattle.command.specs.Decision.{Verdict, answer, nack}
 use Rattle.command.specs.declared.Command.{Command}
 use Rattle.command.specs.declared.Command.TheVariants.{GetCommands, GetVersion, GetDeviceId, ReadMemory, Jump, WriteMemory, Erase, ProgramProtect}
 use Rattle.command.specs.declared.Command.TheVariants.{ProgramUnprotect, AccessProtect, AccessUnprotect, FirmwareCrc, ResetDevice, Speed}
 use Rattle.command.specs.declared.Decision.{Decision}
-use Rattle.command.specs.declared.Lookup.{Lookup}
-use Rattle.command.specs.declared.Lookup.TheVariants.{Known, Unknown}
 use Rattle.command.specs.declared.Next.{Next}
 use Rattle.command.specs.declared.FixedReply.{FixedReply}
-use Rattle.command.specs.declared.Verdict.{Verdict}
-use Rattle.command.specs.declared.Verdict.TheVariants.{Fine, No}
 use Rattle.command.specs.declared.Why.{Why}
 use Rattle.command.proofs.Holds.{Holds, either, split, judged_either}
 use Rattle.rules.specs.Rules.{selector_of}
@@ -54,8 +51,8 @@ module _ (d : List ℕ) (more : Bool) (bytes : List ℕ) where
 
   erased_good : (v : Verdict) → Holds GoodOnCan (erased_or_not v)
   unfolding erased_or_not
-  erased_good Fine = made _ _ _ _ tt tt
-  erased_good (No w) = goes tt
+  erased_good (Ok u) = made _ _ _ _ tt tt
+  erased_good (Err w) = goes tt
 
   -- a selector announces at most 32 numbers
   selected_good : (view : View) (m : ℕ) → Holds GoodOnCan (selected view (selector_of m))
@@ -95,11 +92,11 @@ module _ (d : List ℕ) (more : Bool) (bytes : List ℕ) where
   obeyed_good view b ResetDevice t = goes tt
   obeyed_good view b Speed t = split GoodOnCan _ (λ h. goes h) (λ h. goes tt)
 
-  commanded_good : (view : View) → get_or d address_bytes 0 < 256 → (k : Lookup) → Holds GoodOnCan (commanded view d k)
+  commanded_good : (view : View) → get_or d address_bytes 0 < 256 → (k : Option Command) → Holds GoodOnCan (commanded view d k)
   unfolding commanded
-  commanded_good view b (Known k) =
+  commanded_good view b (Some k) =
       split GoodOnCan (dlc_fits k (length d)) (λ t. unless_either GoodOnCan view k refused (obeyed_good view b k t)) (λ n. goes tt)
-  commanded_good view b Unknown = goes tt
+  commanded_good view b None = goes tt
 
   -- a step that gathers
   gathering_good : (c : Command) (p : Progress) (f : Frame) {k : Decision} → (T (short p f.bytes) → T more) → Holds GoodOnCan k

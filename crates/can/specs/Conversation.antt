@@ -1,23 +1,19 @@
 -- The CAN conversation, command by command and step by step: document 01, "CAN conversation".
-use Rattle.std.specs.Prelude.{ℕ, ◌+◌, Bool, true, not, ◌||◌, List, ◌∷◌, map, length, get_or, drop, eqb, leb}
+use Rattle.std.specs.Prelude.{ℕ, ◌+◌, Bool, true, not, ◌||◌, List, ◌∷◌, map, length, get_or, drop, eqb, leb, Option, Some, None, Ok, Err}
 use Rattle.words.specs.Bytes.{number}
 use Rattle.board.specs.Board.{address, identity}
 use Rattle.board.specs.Quantities.{count_of, one_less, address_in, count_sent, address_bytes, selector_bytes, long_count_bytes}
 use Rattle.board.specs.declared.View.{View}
 use Rattle.memories.specs.declared.Change.TheVariants.{EraseAll}
 use Rattle.command.specs.Commands.{code, can_commands, look_up}
-use Rattle.command.specs.Decision.{if◌gives◌else◌, answer, alter, nack, judged}
+use Rattle.command.specs.Decision.{Verdict, if◌gives◌else◌, answer, alter, nack, judged}
 use Rattle.command.specs.Progress.{Progress, progress_at, staged_with, short, overfull}
 use Rattle.command.specs.declared.Command.{Command}
 use Rattle.command.specs.declared.Command.TheVariants.{GetCommands, GetVersion, GetDeviceId, ReadMemory, Jump, WriteMemory, Erase, ProgramProtect}
 use Rattle.command.specs.declared.Command.TheVariants.{ProgramUnprotect, AccessProtect, AccessUnprotect, FirmwareCrc, ResetDevice, Speed}
 use Rattle.command.specs.declared.Decision.{Decision}
-use Rattle.command.specs.declared.Lookup.{Lookup}
-use Rattle.command.specs.declared.Lookup.TheVariants.{Known, Unknown}
 use Rattle.command.specs.declared.Next.TheVariants.{Gather, GoIdle, SetSpeed, Enter, EnterAt}
 use Rattle.command.specs.declared.FixedReply.TheVariants.{Silence, Ack, AckAck, AckNack, Commands, Version, DeviceId}
-use Rattle.command.specs.declared.Verdict.{Verdict}
-use Rattle.command.specs.declared.Verdict.TheVariants.{Fine, No}
 use Rattle.command.specs.declared.Why.TheVariants.{BadComplement, UnknownCommand, OtherFrame, BadRange, BadSpeed}
 use Rattle.rules.specs.Rules.{unless_protected, telling, reading, write_verdict, writing, selector_of, erasing, erase_all_verdict, protecting, releasing}
 use Rattle.rules.specs.Rules.{locking, unlocking, resetting, jumping, summing}
@@ -62,14 +58,14 @@ dlc_fits ResetDevice n = true
 dlc_fits Speed n = eqb n 2
 
 -- the same for the command that was looked up; an unknown command has no rule
-abbrev pub dlc_right : Lookup → ℕ → Bool
-dlc_right (Known c) n = dlc_fits c n
-dlc_right Unknown n = true
+abbrev pub dlc_right : Option Command → ℕ → Bool
+dlc_right (Some c) n = dlc_fits c n
+dlc_right None n = true
 
 -- special erases: ACK, then ACK or NACK
 unfoldable pub erased_or_not : Verdict → Decision
-erased_or_not Fine = alter AckAck EraseAll GoIdle
-erased_or_not (No w) = answer (AckNack w) GoIdle
+erased_or_not (Ok u) = alter AckAck EraseAll GoIdle
+erased_or_not (Err w) = answer (AckNack w) GoIdle
 
 -- a list is announced, or a special erase is done
 unfoldable pub selected : View → Selector → Decision
@@ -77,31 +73,46 @@ selected view (Listed n) = answer Ack (Enter (step_no EraseList) (expected_for_n
 selected view (Special n) = erased_or_not (erase_all_verdict view n)
 selected view Impossible = nack BadRange
 
+-- 0x11: an address and a count
+abbrev pub read_memory : List ℕ → Decision
+read_memory d = reading (address_in d) (count_sent (drop address_bytes d))
+
+-- 0x63: a count
+abbrev pub program_protect : List ℕ → Decision
+program_protect d = answer Ack (Enter (step_no ProtectList) (count_sent d))
+
+-- 0xAC: an address and a count of two bytes
+abbrev pub firmware_crc : List ℕ → Decision
+firmware_crc d = summing (address_in d) (count_sent (drop address_bytes d))
+
+-- 0x03: a speed
+abbrev pub set_speed : List ℕ → Decision
+set_speed d = if leb (get_or d 0 0) largest_speed gives answer AckAck (SetSpeed (get_or d 0 0)) else nack BadSpeed
+
 -- a command frame's data, and what the command asks for
 unfoldable pub obeyed : View → List ℕ → Command → Decision
 obeyed view d GetCommands = telling Commands
 obeyed view d GetVersion = telling Version
 obeyed view d GetDeviceId = telling DeviceId
-obeyed view d ReadMemory = reading (address_in d) (count_sent (drop address_bytes d))
+obeyed view d ReadMemory = read_memory d
 obeyed view d Jump = jumping (address_in d)
 obeyed view d WriteMemory =
     judged (write_verdict view (address_in d) (count_sent (drop address_bytes d)))
     (answer Ack (EnterAt (step_no WriteData) (count_sent (drop address_bytes d)) (address_in d).0))
 obeyed view d Erase = selected view (selector_of (number d))
-obeyed view d ProgramProtect = answer Ack (Enter (step_no ProtectList) (count_sent d))
+obeyed view d ProgramProtect = program_protect d
 obeyed view d ProgramUnprotect = releasing
 obeyed view d AccessProtect = locking
 obeyed view d AccessUnprotect = unlocking
-obeyed view d FirmwareCrc = summing (address_in d) (count_sent (drop address_bytes d))
+obeyed view d FirmwareCrc = firmware_crc d
 obeyed view d ResetDevice = resetting
-obeyed view d Speed =
-    if leb (get_or d 0 0) largest_speed gives answer AckAck (SetSpeed (get_or d 0 0)) else nack BadSpeed
+obeyed view d Speed = set_speed d
 
 -- the ID is the command; a wrong DLC, no command, or a protected one: NACK
-unfoldable pub commanded : View → List ℕ → Lookup → Decision
-commanded view d (Known c) =
+unfoldable pub commanded : View → List ℕ → Option Command → Decision
+commanded view d (Some c) =
     if dlc_fits c (length d) gives unless_protected view c (obeyed view d c) else nack BadComplement
-commanded view d Unknown = nack UnknownCommand
+commanded view d None = nack UnknownCommand
 
 -- frames of the running ID are gathered until all bytes are there; another ID, or DLC 0, ends the command
 unfoldable pub gathering : Command → Progress → Frame → Decision → Decision

@@ -1,5 +1,5 @@
 -- What each CAN frame is tested for, beside the reason that it has: document 02, Wish 2.
-use Rattle.std.specs.Prelude.{ℕ, ◌≡◌, not, ◌||◌, List, [], ◌∷◌, ◌++◌, length, get_or, drop, T, eqb, leb}
+use Rattle.std.specs.Prelude.{ℕ, ◌≡◌, not, ◌||◌, List, [], ◌∷◌, ◌++◌, length, get_or, drop, T, eqb, leb, Option, Some, None}
 use Rattle.words.specs.Bytes.{number}
 use Rattle.board.specs.Board.{address}
 use Rattle.board.specs.Quantities.{address_in, count_sent, address_bytes, first_indexed, first_numbered}
@@ -11,8 +11,6 @@ use Rattle.command.specs.Why.{reason_of}
 use Rattle.command.specs.declared.Command.{Command}
 use Rattle.command.specs.declared.Command.TheVariants.{GetCommands, GetVersion, GetDeviceId, ReadMemory, Jump, WriteMemory, Erase, ProgramProtect}
 use Rattle.command.specs.declared.Command.TheVariants.{ProgramUnprotect, AccessProtect, AccessUnprotect, FirmwareCrc, ResetDevice, Speed}
-use Rattle.command.specs.declared.Lookup.{Lookup}
-use Rattle.command.specs.declared.Lookup.TheVariants.{Known, Unknown}
 use Rattle.command.specs.declared.Why.{Why}
 use Rattle.command.specs.declared.Why.TheVariants.{BadComplement, UnknownCommand, AccessProtected, OtherFrame, BadAddress, BadRange, BadSector}
 use Rattle.command.specs.declared.Why.TheVariants.{WriteProtected, UnsupportedErase, BadSpeed}
@@ -41,12 +39,12 @@ possible_of ResetDevice = []
 possible_of Speed = BadSpeed ∷ []
 
 -- and those of any command frame: again no reason but these, of which an unknown ID gives the second
-abbrev pub possible_for : Lookup → List Why
-possible_for (Known c) = BadComplement ∷ UnknownCommand ∷ AccessProtected ∷ possible_of c
-possible_for Unknown = BadComplement ∷ UnknownCommand ∷ AccessProtected ∷ []
+abbrev pub possible_for : Option Command → List Why
+possible_for (Some c) = BadComplement ∷ UnknownCommand ∷ AccessProtected ∷ possible_of c
+possible_for None = BadComplement ∷ UnknownCommand ∷ AccessProtected ∷ []
 
 -- no reason but these is given by a frame in a step, idle by the command that its ID is, while gathering by the running one; which of them, `first` says
-abbrev pub possible : Step → Lookup → List Why
+abbrev pub possible : Step → Option Command → List Why
 possible Idle l = possible_for l
 possible WriteData l = OtherFrame ∷ BadAddress ∷ BadRange ∷ WriteProtected ∷ []
 possible EraseList l = OtherFrame ∷ BadRange ∷ BadSector ∷ WriteProtected ∷ []
@@ -70,12 +68,12 @@ data_tests view d ResetDevice = []
 data_tests view d Speed = (BadSpeed when not (leb (get_or d 0 0) largest_speed)) ∷ []
 
 -- the same by what was looked up
-abbrev pub data_tests_for : View → List ℕ → Lookup → List Test
-data_tests_for view d (Known c) = data_tests view d c
-data_tests_for view d Unknown = []
+abbrev pub data_tests_for : View → List ℕ → Option Command → List Test
+data_tests_for view d (Some c) = data_tests view d c
+data_tests_for view d None = []
 
 -- a command frame: a wrong DLC; unknown, or protected while protection is on; what its data are tested for
-abbrev pub frame_tests : View → List ℕ → Lookup → List Test
+abbrev pub frame_tests : View → List ℕ → Option Command → List Test
 frame_tests view d l = (BadComplement when not (dlc_right l (length d))) ∷ command_tests view l ++ data_tests_for view d l
 
 -- a frame that is gathered: another ID, or DLC 0; then, when no more bytes are expected, what the whole is tested for
@@ -102,7 +100,7 @@ tests s p view f =
 -- the reason of any frame, in any step and for any board
 pub record FirstReasons : Type 0 where
   -- the table is in document 02's order, and a step tests what the table has
-  pub ordered : (s : Step) (l : Lookup) → T (in_order (possible s l))
+  pub ordered : (s : Step) (l : Option Command) → T (in_order (possible s l))
   pub tested : (s : Step) (p : Progress) (view : View) (f : Frame)
       → reasons_of (tests s p view f) ≡ possible s (look_up can_commands f.id)
   -- the reason given is the first of those whose tests refuse, also when each test is asked by itself

@@ -44,25 +44,21 @@ pub fn has_room(length: usize) -> bool
     ROOM <= length
 }
 
-impl Step {
-    // The number of the step.
-    pub fn number(self) -> u8
-        ensures { result ≡ step_no self }
-    {
-        match self {
-            Step::Idle => 0,
-            Step::WriteData => 1,
-            Step::EraseList => 2,
-            Step::ProtectList => 3,
-        }
-    }
+impl From<Step> for u8 {
+    ghost from_gives = { λ step number. number ≡ step_no step };
 
+    // The number of the step.
+    fn from(step: Step) -> u8 {
+        step as u8
+    }
+}
+
+impl Step {
     // The step of a number; idle where there is none.
     pub fn of(number: u8) -> Step
         ensures { result ≡ step_of number }
     {
         match number {
-            0 => Step::Idle,
             1 => Step::WriteData,
             2 => Step::EraseList,
             3 => Step::ProtectList,
@@ -76,11 +72,10 @@ impl Step {
     {
         match self {
             Step::Idle => n == ONE_FRAME,
-            Step::WriteData => (1 <= n) & (n <= LessOne::LARGEST),
+            Step::WriteData | Step::ProtectList => (1 <= n) & (n <= LessOne::LARGEST),
             Step::EraseList => (Sector::NUMBER_BYTES <= n)
                 & (n <= Sector::NUMBER_BYTES * Board::SECTORS)
                 & (n % Sector::NUMBER_BYTES == 0),
-            Step::ProtectList => (1 <= n) & (n <= LessOne::LARGEST),
         }
     }
 }

@@ -1,5 +1,5 @@
 // What one frame of a connected host decides, step by step.
-#![tactic(auto)]
+#![tactic(auto, unfolding(can::specs::Conversation::obeyed, can::specs::Conversation::commanded, can::specs::Conversation::selected, can::specs::Conversation::erased_or_not, can::specs::Conversation::gathering, can::specs::Conversation::unless_extra, can::specs::Conversation::decided))]
 
 mod obey;
 

@@ -2,11 +2,11 @@
 ghost use Rattle.std.specs.Prelude.{◌≡◌, T, length};
 ghost use Rattle.command.specs.Commands.{can_commands, look_up};
 ghost use Rattle.command.specs.declared.Command.TheVariants.{ReadMemory, WriteMemory, Erase, ProgramProtect, FirmwareCrc, Speed};
-ghost use Rattle.can.specs.Conversation.{dlc_fits, dlc_right, erased_or_not, selected, obeyed, commanded};
+ghost use Rattle.can.specs.Conversation.{dlc_fits, erased_or_not, selected, read_memory, program_protect, firmware_crc, set_speed, obeyed, commanded};
 
 use board::{Sector, View};
 use can::{LARGEST_SPEED, Step};
-use command::{Command, Decision, FixedReply, Lookup, Next, Verdict, Why, code};
+use command::{Command, Decision, FixedReply, Next, Why, code};
 use memories::Change;
 use rules::Selector;
 use rules_code::{at_once, sent};
@@ -28,23 +28,16 @@ const COUNT_ONLY: usize = 1;
 // The largest number that a command may have: a byte's.
 const LARGEST_NUMBER: u16 = 0xFF;
 
-// Whether the DLC is right for the command of a number; an unknown command has no rule.
-fn dlc_right(number: u8, dlc: usize) -> bool
-    ensures { result ≡ dlc_right (look_up can_commands number) dlc }
+// Whether the DLC is the one that a command must have; the rest ignore DLC and data.
+fn dlc_fits(command: Command, dlc: usize) -> bool
+    ensures { result ≡ dlc_fits command dlc }
 {
-    match number {
-        code::READ_MEMORY | code::WRITE_MEMORY => dlc == ADDRESS_AND_COUNT,
-        code::JUMP => dlc == ADDRESS_ONLY,
-        code::ERASE | code::SPEED => dlc == SELECTOR_OR_SPEED,
-        code::PROGRAM_PROTECT => dlc == COUNT_ONLY,
-        code::FIRMWARE_CRC => dlc == ADDRESS_AND_LONG_COUNT,
-        code::GET_COMMANDS
-        | code::GET_VERSION
-        | code::GET_DEVICE_ID
-        | code::PROGRAM_UNPROTECT
-        | code::ACCESS_PROTECT
-        | code::ACCESS_UNPROTECT
-        | code::RESET_DEVICE => true,
+    match command {
+        Command::ReadMemory | Command::WriteMemory => dlc == ADDRESS_AND_COUNT,
+        Command::Jump => dlc == ADDRESS_ONLY,
+        Command::Erase | Command::Speed => dlc == SELECTOR_OR_SPEED,
+        Command::ProgramProtect => dlc == COUNT_ONLY,
+        Command::FirmwareCrc => dlc == ADDRESS_AND_LONG_COUNT,
         _ => true,
     }
 }
@@ -52,7 +45,7 @@ fn dlc_right(number: u8, dlc: usize) -> bool
 // 0x11: the bytes are sent, or refused.
 fn read_memory(carried: &[u8]) -> Decision
     requires { T (dlc_fits ReadMemory (length carried.now)) }
-    ensures { (view : View) → result ≡ obeyed view carried.now ReadMemory }
+    ensures { result ≡ read_memory carried.now }
 {
     rules_code::read::read(
         sent::address_in(carried),
@@ -71,18 +64,18 @@ fn write_memory(view: View, carried: &[u8]) -> Decision
         rules_code::write::write_verdict(view, address, x),
         command::answer(
             FixedReply::Ack,
-            Next::EnterAt(Step::WriteData.number(), x, address.0),
+            Next::EnterAt(u8::from(Step::WriteData), x, address.0),
         ),
     )
 }
 
 // A special erase: ACK, then ACK or NACK.
-fn erased_or_not(verdict: Verdict) -> Decision
+fn erased_or_not(verdict: Result<(), Why>) -> Decision
     ensures { result ≡ erased_or_not verdict }
 {
     match verdict {
-        Verdict::Fine => command::alter(FixedReply::AckAck, Change::EraseAll, Next::GoIdle),
-        Verdict::No(why) => command::answer(FixedReply::AckNack(why), Next::GoIdle),
+        Ok(()) => command::alter(FixedReply::AckAck, Change::EraseAll, Next::GoIdle),
+        Err(why) => command::answer(FixedReply::AckNack(why), Next::GoIdle),
     }
 }
 
@@ -94,7 +87,7 @@ fn selected(view: View, selector: Selector) -> Decision
         Selector::Listed(sent) => command::answer(
             FixedReply::Ack,
             Next::Enter(
-                Step::EraseList.number(),
+                u8::from(Step::EraseList),
                 Sector::NUMBER_BYTES * sent.count(),
             ),
         ),
@@ -119,18 +112,18 @@ fn erase(view: View, carried: &[u8]) -> Decision
 // 0x63: ACK, and the indexes are gathered.
 fn program_protect(carried: &[u8]) -> Decision
     requires { T (dlc_fits ProgramProtect (length carried.now)) }
-    ensures { (view : View) → result ≡ obeyed view carried.now ProgramProtect }
+    ensures { result ≡ program_protect carried.now }
 {
     command::answer(
         FixedReply::Ack,
-        Next::Enter(Step::ProtectList.number(), sent::count_of(carried[0])),
+        Next::Enter(u8::from(Step::ProtectList), sent::count_of(carried[0])),
     )
 }
 
 // 0xAC: the checksum is sent, or refused.
 fn firmware_crc(carried: &[u8]) -> Decision
     requires { T (dlc_fits FirmwareCrc (length carried.now)) }
-    ensures { (view : View) → result ≡ obeyed view carried.now FirmwareCrc }
+    ensures { result ≡ firmware_crc carried.now }
 {
     rules_code::sum::sum(
         sent::address_in(carried),
@@ -144,7 +137,7 @@ fn firmware_crc(carried: &[u8]) -> Decision
 // 0x03: a speed from 0 to 3 is set, and the second byte is free.
 fn set_speed(carried: &[u8]) -> Decision
     requires { T (dlc_fits Speed (length carried.now)) }
-    ensures { (view : View) → result ≡ obeyed view carried.now Speed }
+    ensures { result ≡ set_speed carried.now }
 {
     let speed = carried[0];
     command::accept_if(
@@ -168,44 +161,43 @@ fn obeyed(view: View, carried: &[u8], command: Command) -> Decision
         Command::WriteMemory => write_memory(view, carried),
         Command::Erase => erase(view, carried),
         Command::ProgramProtect => program_protect(carried),
-        Command::ProgramUnprotect => at_once::release(),
-        Command::AccessProtect => at_once::lock(),
-        Command::AccessUnprotect => at_once::unlock(),
+        Command::ProgramUnprotect => at_once::alter(Change::Release),
+        Command::AccessProtect => at_once::alter(Change::Lock),
+        Command::AccessUnprotect => at_once::alter(Change::Unlock),
         Command::FirmwareCrc => firmware_crc(carried),
         Command::ResetDevice => at_once::reset(),
         Command::Speed => set_speed(carried),
     }
 }
 
-// A command that is known, has its DLC and is not forbidden is obeyed.
-fn commanded(view: View, number: u8, carried: &[u8]) -> Decision
-    ensures { result ≡ commanded view carried.now (look_up can_commands number) }
+// The command that an ID asks for, if there is one: an ID that is no byte is no command.
+fn look_up(id: u16) -> Option<Command>
+    ensures { result ≡ look_up can_commands id }
 {
-    let lookup = code::look_up(number);
-    let right = dlc_right(number, carried.len());
-    match lookup {
-        Lookup::Known(command) => {
-            if right {
-                rules_code::protected::unless_protected(
-                    view,
-                    command,
-                    obeyed(view, carried, command),
-                )
-            } else {
-                command::nack(Why::BadComplement)
-            }
-        }
-        Lookup::Unknown => command::nack(Why::UnknownCommand),
+    if id <= LARGEST_NUMBER {
+        code::look_up(id as u8)
+    } else {
+        None
     }
 }
 
-// A command frame: an ID that is no byte is no command.
+// A command that is known, has its DLC and is not forbidden is obeyed.
+fn commanded(view: View, carried: &[u8], found: Option<Command>) -> Decision
+    ensures { result ≡ commanded view carried.now found }
+{
+    let Some(command) = found else {
+        return command::nack(Why::UnknownCommand);
+    };
+    let right = dlc_fits(command, carried.len());
+    if !right {
+        return command::nack(Why::BadComplement);
+    }
+    rules_code::protected::unless_protected(view, command, obeyed(view, carried, command))
+}
+
+// A command frame.
 pub fn command_frame(view: View, id: u16, carried: &[u8]) -> Decision
     ensures { result ≡ commanded view carried.now (look_up can_commands id) }
 {
-    if id <= LARGEST_NUMBER {
-        commanded(view, id as u8, carried)
-    } else {
-        command::nack(Why::UnknownCommand)
-    }
+    commanded(view, carried, look_up(id))
 }

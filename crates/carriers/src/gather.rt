@@ -20,7 +20,7 @@ pub fn gather(staged: &mut [u8; STAGED], taken: usize, expected: usize, new: &[u
     ensures { (result ≡ taken + length (fitting (progress_at taken expected 0 staged.old) new.now))
         × (staged.new ≡ staged_with (progress_at taken expected 0 staged.old) new.now) }
 {
-    let fit = words::least(expected - taken, new.len());
+    let fit = (expected - taken).min(new.len());
     stage(staged, taken, new, fit);
     taken + fit
 }

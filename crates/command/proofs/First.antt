@@ -6,15 +6,13 @@ use mathlib.Core.List.{List, [], ◌∷◌}
 use native.Mathlib.Omega.{arith}
 use lib.Dec.{T, eqb, leb, leb→le, le→leb, eqb_refl}
 use borrow.Author.Tests.{leb-true, leb-false}
-use Rattle.std.specs.Prelude.{if◌then◌else◌}
+use Rattle.std.specs.Prelude.{if◌then◌else◌, Ok, Err}
 use Rattle.words.specs.Lists.{any, all}
 use Rattle.words.proofs.Tests.{both_left, both_right, chosen}
-use Rattle.command.specs.Decision.{if◌gives◌else◌, nack, judged}
+use Rattle.command.specs.Decision.{Verdict, if◌gives◌else◌, nack, judged}
 use Rattle.command.specs.Tests.{Test, ◌when◌, only_if, precedes, earlier, first_reason, GivesFirst, IsFirst, one_of, reasons_of}
 use Rattle.command.specs.Why.{reason, no_reason, reason_of}
 use Rattle.command.specs.declared.Decision.{Decision}
-use Rattle.command.specs.declared.Verdict.{Verdict}
-use Rattle.command.specs.declared.Verdict.TheVariants.{Fine, No}
 use Rattle.command.specs.declared.Why.{Why}
 use Rattle.command.specs.declared.Why.TheVariants.{BadComplement, UnknownCommand, AccessProtected, OtherFrame, BadChecksum, BadAddress}
 use Rattle.command.specs.declared.Why.TheVariants.{BadRange, BadSector, WriteProtected, UnsupportedErase, BadSpeed}
@@ -105,8 +103,8 @@ awaited false ts x e g = record { first = g.first ∙ sym (only_if_first true ts
 
 -- the reason of a verdict
 abbrev pub verdict_reason : Verdict → ℕ
-verdict_reason Fine = no_reason
-verdict_reason (No w) = reason w
+verdict_reason (Ok u) = no_reason
+verdict_reason (Err w) = reason w
 
 -- a verdict refuses for the first one of these tests
 pub record RefusesFirst (v : Verdict) (ts : List Test) : Type 0 where
@@ -116,8 +114,8 @@ pub record RefusesFirst (v : Verdict) (ts : List Test) : Type 0 where
 pub judged_first : (v : Verdict) (d : Decision) {ts : List Test} → reason_of d.reply ≡ no_reason → RefusesFirst v ts
     → GivesFirst (judged v d) ts
 unfolding judged
-judged_first Fine d e r = record { first = e ∙ r.first }
-judged_first (No w) d e r = record { first = r.first }
+judged_first (Ok u) d e r = record { first = e ∙ r.first }
+judged_first (Err w) d e r = record { first = r.first }
 
 -- ---- what the first reason is
 

@@ -1,10 +1,9 @@
 -- What holds of some decisions holds of every choice between them.
 use mathlib.Core.Bool.{Bool, true, false, not}
 use lib.Dec.{T}
-use Rattle.command.specs.Decision.{if◌gives◌else◌, nack, judged}
+use Rattle.std.specs.Prelude.{Ok, Err}
+use Rattle.command.specs.Decision.{Verdict, if◌gives◌else◌, nack, judged}
 use Rattle.command.specs.declared.Decision.{Decision}
-use Rattle.command.specs.declared.Verdict.{Verdict}
-use Rattle.command.specs.declared.Verdict.TheVariants.{Fine, No}
 use Rattle.command.specs.declared.Why.{Why}
 
 -- something holds of a decision
@@ -27,5 +26,5 @@ module _ (P : Decision → Type 0) where
   -- a decision that a rule may forbid
   pub judged_either : (v : Verdict) {d : Decision} → ((w : Why) → Holds P (nack w)) → Holds P d → Holds P (judged v d)
   unfolding judged
-  judged_either Fine pn pd = pd
-  judged_either (No w) pn pd = pn w
+  judged_either (Ok u) pn pd = pd
+  judged_either (Err w) pn pd = pn w

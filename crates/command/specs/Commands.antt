@@ -1,12 +1,9 @@
 -- The commands and their numbers: document 01, "Protected commands", and the lists of both conversations.
-use Rattle.std.specs.Prelude.{ℕ, Bool, true, false, List, [], ◌∷◌, ◌++◌, eqb}
-use Rattle.std.specs.Prelude.{if◌then◌else◌}
+use Rattle.std.specs.Prelude.{ℕ, Bool, true, false, List, [], ◌∷◌, ◌++◌, eqb, if◌then◌else◌, Option, Some, None}
 use Rattle.command.specs.declared.Command.{Command}
 use Rattle.command.specs.declared.Command.TheVariants.{GetCommands, GetVersion, GetDeviceId, ReadMemory, Jump, WriteMemory, Erase}
 use Rattle.command.specs.declared.Command.TheVariants.{ProgramProtect, ProgramUnprotect, AccessProtect, AccessUnprotect, FirmwareCrc}
 use Rattle.command.specs.declared.Command.TheVariants.{ResetDevice, Speed}
-use Rattle.command.specs.declared.Lookup.{Lookup}
-use Rattle.command.specs.declared.Lookup.TheVariants.{Known, Unknown}
 
 -- the number of each command
 abbrev pub code : Command → ℕ
@@ -36,9 +33,9 @@ abbrev pub can_commands : List Command
 can_commands = uart_commands ++ Speed ∷ []
 
 -- the command of a list that has a number
-abbrev pub look_up : List Command → ℕ → Lookup
-look_up [] n = Unknown
-look_up (c ∷ cs) n = if eqb n (code c) then Known c else look_up cs n
+abbrev pub look_up : List Command → ℕ → Option Command
+look_up [] n = None
+look_up (c ∷ cs) n = if eqb n (code c) then Some c else look_up cs n
 
 -- NACKed at once while protection is on; Firmware CRC is not
 abbrev pub protected : Command → Bool

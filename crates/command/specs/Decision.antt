@@ -1,5 +1,5 @@
 -- How decisions are made of tests.
-use Rattle.std.specs.Prelude.{Bool, true, false}
+use Rattle.std.specs.Prelude.{Bool, true, false, Result, Ok, Err}
 use Rattle.memories.specs.declared.Change.{Change}
 use Rattle.memories.specs.declared.Change.TheVariants.{Nothing}
 use Rattle.command.specs.declared.Decision.{Decision}
@@ -9,8 +9,6 @@ use Rattle.command.specs.declared.Reply.{Reply}
 use Rattle.command.specs.declared.Reply.TheVariants.{Fixed}
 use Rattle.command.specs.declared.FixedReply.{FixedReply}
 use Rattle.command.specs.declared.FixedReply.TheVariants.{Nack}
-use Rattle.command.specs.declared.Verdict.{Verdict}
-use Rattle.command.specs.declared.Verdict.TheVariants.{Fine, No}
 use Rattle.command.specs.declared.Why.{Why}
 
 infixr 5 if◌gives◌else◌
@@ -35,7 +33,14 @@ show r n = record { reply = r; change = Nothing; next = n }
 abbrev pub nack : Why → Decision
 nack w = answer (Nack w) GoIdle
 
+-- whether a rule lets a command pass: it is fine, or refused for a reason
+abbrev pub Verdict : Type 0
+Verdict = Result (Unit {0}) Why
+
+abbrev pub fine : Verdict
+fine = Ok tt
+
 -- a decision that a rule may forbid
 unfoldable pub judged : Verdict → Decision → Decision
-judged Fine d = d
-judged (No w) d = nack w
+judged (Ok u) d = d
+judged (Err w) d = nack w

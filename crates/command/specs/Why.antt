@@ -1,5 +1,5 @@
 -- The reasons of a refusal, in the order in which they are tested: document 02, Wish 2.
-use Rattle.std.specs.Prelude.{ℕ}
+use Rattle.std.specs.Prelude.{ℕ, Option, Some, None}
 use Rattle.command.specs.declared.FixedReply.{FixedReply}
 use Rattle.command.specs.declared.FixedReply.TheVariants.{Silence, Ack, AckAck, Nack, AckNack, Commands, Version, DeviceId}
 use Rattle.command.specs.declared.Reply.{Reply}
@@ -26,19 +26,28 @@ reason BadSpeed = 11
 abbrev pub no_reason : ℕ
 no_reason = 0
 
--- the reason of the NACK in what is told
-abbrev pub reason_in : FixedReply → ℕ
-reason_in Silence = no_reason
-reason_in Ack = no_reason
-reason_in AckAck = no_reason
-reason_in (Nack w) = reason w
-reason_in (AckNack w) = reason w
-reason_in Commands = no_reason
-reason_in Version = no_reason
-reason_in DeviceId = no_reason
+-- the number of a reason that there may be
+abbrev pub number_of : Option Why → ℕ
+number_of (Some w) = reason w
+number_of None = no_reason
+
+-- the reason of the NACK in what is told, if there is one
+abbrev pub why_in : FixedReply → Option Why
+why_in Silence = None
+why_in Ack = None
+why_in AckAck = None
+why_in (Nack w) = Some w
+why_in (AckNack w) = Some w
+why_in Commands = None
+why_in Version = None
+why_in DeviceId = None
 
 -- and of that in a reply
+abbrev pub why_of : Reply → Option Why
+why_of (Fixed t) = why_in t
+why_of (Data r at x) = None
+why_of (Crc at n) = None
+
+-- the number of this reason
 abbrev pub reason_of : Reply → ℕ
-reason_of (Fixed t) = reason_in t
-reason_of (Data r at x) = no_reason
-reason_of (Crc at n) = no_reason
+reason_of r = number_of (why_of r)

@@ -2,7 +2,7 @@
 ghost use Rattle.std.specs.Prelude.{◌≡◌};
 ghost use Rattle.command.specs.Commands.{can_commands, look_up};
 
-use crate::{Command, Lookup};
+use crate::Command;
 
 // The numbers of the commands.
 pub const GET_COMMANDS: u8 = 0x00;
@@ -34,24 +34,24 @@ pub const FIRMWARE_CRC: u8 = 0xAC;
 pub const RESET_DEVICE: u8 = 0xD4;
 
 // The command of a number, if there is one.
-pub fn look_up(number: u8) -> Lookup
+pub fn look_up(number: u8) -> Option<Command>
     ensures { result ≡ look_up can_commands number }
 {
     match number {
-        GET_COMMANDS => Lookup::Known(Command::GetCommands),
-        GET_VERSION => Lookup::Known(Command::GetVersion),
-        GET_DEVICE_ID => Lookup::Known(Command::GetDeviceId),
-        READ_MEMORY => Lookup::Known(Command::ReadMemory),
-        JUMP => Lookup::Known(Command::Jump),
-        WRITE_MEMORY => Lookup::Known(Command::WriteMemory),
-        ERASE => Lookup::Known(Command::Erase),
-        PROGRAM_PROTECT => Lookup::Known(Command::ProgramProtect),
-        PROGRAM_UNPROTECT => Lookup::Known(Command::ProgramUnprotect),
-        ACCESS_PROTECT => Lookup::Known(Command::AccessProtect),
-        ACCESS_UNPROTECT => Lookup::Known(Command::AccessUnprotect),
-        FIRMWARE_CRC => Lookup::Known(Command::FirmwareCrc),
-        RESET_DEVICE => Lookup::Known(Command::ResetDevice),
-        SPEED => Lookup::Known(Command::Speed),
-        _ => Lookup::Unknown,
+        GET_COMMANDS => Some(Command::GetCommands),
+        GET_VERSION => Some(Command::GetVersion),
+        GET_DEVICE_ID => Some(Command::GetDeviceId),
+        READ_MEMORY => Some(Command::ReadMemory),
+        JUMP => Some(Command::Jump),
+        WRITE_MEMORY => Some(Command::WriteMemory),
+        ERASE => Some(Command::Erase),
+        PROGRAM_PROTECT => Some(Command::ProgramProtect),
+        PROGRAM_UNPROTECT => Some(Command::ProgramUnprotect),
+        ACCESS_PROTECT => Some(Command::AccessProtect),
+        ACCESS_UNPROTECT => Some(Command::AccessUnprotect),
+        FIRMWARE_CRC => Some(Command::FirmwareCrc),
+        RESET_DEVICE => Some(Command::ResetDevice),
+        SPEED => Some(Command::Speed),
+        _ => None,
     }
 }

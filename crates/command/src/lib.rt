@@ -31,37 +31,23 @@ pub enum Command {
     Speed,
 }
 
-// The command that a number asks for, if there is one.
-#[derive(Clone, Copy)]
-pub enum Lookup {
-    Known(Command),
-    Unknown,
-}
-
-// Why a command is refused.
+// Why a command is refused, with document 02's numbers.
 #[derive(Clone, Copy)]
 pub enum Why {
     // Bad complement of the command, or bad DLC.
-    BadComplement,
-    UnknownCommand,
-    AccessProtected,
+    BadComplement = 1,
+    UnknownCommand = 2,
+    AccessProtected = 3,
     // A frame of another ID, or an empty one, while gathering.
-    OtherFrame,
-    BadChecksum,
-    BadAddress,
+    OtherFrame = 4,
+    BadChecksum = 5,
+    BadAddress = 6,
     // Bad count or range.
-    BadRange,
-    BadSector,
-    WriteProtected,
-    UnsupportedErase,
-    BadSpeed,
-}
-
-// Whether a rule lets a command pass.
-#[derive(Clone, Copy)]
-pub enum Verdict {
-    Fine,
-    No(Why),
+    BadRange = 7,
+    BadSector = 8,
+    WriteProtected = 9,
+    UnsupportedErase = 10,
+    BadSpeed = 11,
 }
 
 // What is told whatever the memories hold.
@@ -124,8 +110,8 @@ pub fn alter(told: FixedReply, change: Change, next: Next) -> Decision
 {
     Decision {
         reply: Reply::Fixed(told),
-        change: change,
-        next: next,
+        change,
+        next,
     }
 }
 
@@ -134,9 +120,9 @@ pub fn show(reply: Reply, next: Next) -> Decision
     ensures { result ≡ show reply next }
 {
     Decision {
-        reply: reply,
+        reply,
         change: Change::Nothing,
-        next: next,
+        next,
     }
 }
 
@@ -155,11 +141,12 @@ pub fn accept_if(good: bool, decision: Decision, why: Why) -> Decision
 }
 
 // A decision that a rule may forbid.
-pub fn judged(verdict: Verdict, decision: Decision) -> Decision
+#[tactic(auto, unfolding(crate::specs::Decision::judged))]
+pub fn judged(verdict: Result<(), Why>, decision: Decision) -> Decision
     ensures { result ≡ judged verdict decision }
 {
     match verdict {
-        Verdict::Fine => decision,
-        Verdict::No(why) => nack(why),
+        Ok(()) => decision,
+        Err(why) => nack(why),
     }
 }

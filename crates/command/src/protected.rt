@@ -8,14 +8,14 @@ use crate::Command;
 pub fn is_protected(command: Command) -> bool
     ensures { result ≡ protected command }
 {
-    match command {
+    matches!(
+        command,
         Command::ReadMemory
-        | Command::Jump
-        | Command::WriteMemory
-        | Command::Erase
-        | Command::ProgramProtect
-        | Command::ProgramUnprotect
-        | Command::AccessProtect => true,
-        _ => false,
-    }
+            | Command::Jump
+            | Command::WriteMemory
+            | Command::Erase
+            | Command::ProgramProtect
+            | Command::ProgramUnprotect
+            | Command::AccessProtect
+    )
 }

@@ -1,60 +1,48 @@
 // Why a command was refused, in document 02's numbers.
 ghost use Rattle.std.specs.Prelude.{◌≡◌};
-ghost use Rattle.command.specs.Why.{reason, reason_in, reason_of};
+ghost use Rattle.command.specs.Why.{reason, why_in, why_of, reason_of};
 
 use crate::{FixedReply, Reply, Why};
 
 // The number where there is no NACK.
 pub const NO_REASON: u8 = 0;
 
-impl Why {
+impl From<Why> for u8 {
+    ghost from_gives = { λ why number. number ≡ reason why };
+
     // The number of the reason.
-    pub fn number(self) -> u8
-        ensures { result ≡ reason self }
-    {
-        match self {
-            Why::BadComplement => 1,
-            Why::UnknownCommand => 2,
-            Why::AccessProtected => 3,
-            Why::OtherFrame => 4,
-            Why::BadChecksum => 5,
-            Why::BadAddress => 6,
-            Why::BadRange => 7,
-            Why::BadSector => 8,
-            Why::WriteProtected => 9,
-            Why::UnsupportedErase => 10,
-            Why::BadSpeed => 11,
-        }
+    fn from(why: Why) -> u8 {
+        why as u8
     }
 }
 
 impl FixedReply {
-    // The reason of the NACK in what is told.
-    pub fn reason(self) -> u8
-        ensures { result ≡ reason_in self }
+    // The reason of the NACK in what is told, if there is one.
+    pub fn why(self) -> Option<Why>
+        ensures { result ≡ why_in self }
     {
         match self {
-            FixedReply::Silence => NO_REASON,
-            FixedReply::Ack => NO_REASON,
-            FixedReply::AckAck => NO_REASON,
-            FixedReply::Nack(why) => why.number(),
-            FixedReply::AckNack(why) => why.number(),
-            FixedReply::Commands => NO_REASON,
-            FixedReply::Version => NO_REASON,
-            FixedReply::DeviceId => NO_REASON,
+            FixedReply::Nack(why) | FixedReply::AckNack(why) => Some(why),
+            _ => None,
         }
     }
 }
 
 impl Reply {
-    // The reason of the NACK in a reply.
+    // The reason of the NACK in a reply, if there is one.
+    pub fn why(self) -> Option<Why>
+        ensures { result ≡ why_of self }
+    {
+        match self {
+            Reply::Fixed(told) => told.why(),
+            Reply::Data(_, _, _) | Reply::Crc(_, _) => None,
+        }
+    }
+
+    // The number of this reason.
     pub fn reason(self) -> u8
         ensures { result ≡ reason_of self }
     {
-        match self {
-            Reply::Fixed(told) => told.reason(),
-            Reply::Data(_, _, _) => NO_REASON,
-            Reply::Crc(_, _) => NO_REASON,
-        }
+        self.why().map_or(NO_REASON, u8::from)
     }
 }

@@ -1,2 +1,2 @@
 pub mod CheckValue
-mod Taken
+mod Fed

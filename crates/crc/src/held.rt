@@ -3,6 +3,7 @@
 ghost use Rattle.crc.specs.Crc.{CheckValue};
 
 // The checksum of the nine characters "123456789" is 0x0376E6E7, the value by which anyone can tell this CRC from another.
+#[tactic(auto, using(crate::proofs::CheckValue::check_value))]
 pub fn check_value()
     ensures { CheckValue }
 {}

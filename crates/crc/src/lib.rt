@@ -44,11 +44,7 @@ fn take(register: u32, byte: u8) -> u32
 pub fn crc_from(register: u32, bytes: &[u8]) -> u32
     ensures { result ≡ crc_from register bytes.now }
 {
-    let mut sum = register;
-    for i in 0..bytes.len() {
-        sum = take(sum, bytes[i]);
-    }
-    sum
+    bytes.iter().fold(register, |sum, byte| take(sum, *byte))
 }
 
 // The checksum of some bytes, in their order.

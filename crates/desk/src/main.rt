@@ -7,16 +7,13 @@ use keeping::arguments;
 
 fn main(rt: HostRuntime) {
     let mut word = io::buffer();
-    let length = files::word(&rt, 1, &mut word);
-    let why = desk_loop::asks_why(&word[..length]);
+    let why = match files::word(&rt, 1, &mut word) {
+        Some(length) => desk_loop::asks_why(&word[..length]),
+        None => false,
+    };
     let mut name = io::buffer();
-    let asked = arguments::ask(&rt, why, &mut name);
-    let n = asked.length;
-    if asked.known {
-        let mut from = rt.stdin();
-        let mut to = rt.stdout();
-        desk_loop::run(&rt, why, &name[..n], &mut from, &mut to);
-    } else {
-        rt.complain(b"desk: it takes [--why] [--keep FILE]\n");
+    match arguments::ask(&rt, why, &mut name) {
+        Some(n) => desk_loop::run(&rt, why, &name[..n], &mut rt.stdin(), &mut rt.stdout()),
+        None => rt.complain(b"desk: it takes [--why] [--keep FILE]\n"),
     }
 }

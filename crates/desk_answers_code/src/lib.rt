@@ -26,9 +26,6 @@ const ROOM: usize = can::ROOM;
 // The most bytes that a line writes.
 const MOST_BYTES: usize = MOST_CHARACTERS / FIELD;
 
-// How many characters begin the notice that bears a line's number.
-const NOTICE_BEGINS: usize = 2;
-
 // What is so after an answer: the session, and where the text ends.
 #[derive(Clone, Copy)]
 pub struct Answered {
@@ -78,17 +75,14 @@ fn tell_front(
     let session = begun.session;
     let front = session.take_front(bytes, flash, sram, usd, &mut buffer);
     let taken = front.taken;
-    let next = taken.session;
-    let n = taken.length;
-    let end = desk_print::bytes(&buffer, n, out, begun.end);
+    let end = desk_print::bytes(&buffer[..taken.length], out, begun.end);
     let noted = why::note(taken.reason, taken.place, notes, begun.noted);
-    let told = Telling {
-        session: next,
-        end: end,
-        noted: noted,
-    };
     ToldFront {
-        told: told,
+        told: Telling {
+            session: taken.session,
+            end,
+            noted,
+        },
         count: front.silent + 1,
     }
 }
@@ -112,13 +106,12 @@ fn tell_all(
     ensures fits { (result.end ≤ begun.end + desk_room * field_characters * length bytes.now)
         × (result.noted ≤ begun.noted + note_numbers * length bytes.now) }
 {
-    let n = bytes.len();
     let mut told = begun;
-    let mut i = 0;
-    while i < n {
-        let front = tell_front(told, &bytes[i..], flash, sram, usd, out, notes);
+    let mut left = bytes;
+    while !left.is_empty() {
+        let front = tell_front(told, left, flash, sram, usd, out, notes);
         told = front.told;
-        i += front.count;
+        left = &left[front.count..];
     }
     told
 }
@@ -172,14 +165,12 @@ fn tell_frame(
     let mut buffer = [0u8; ROOM];
     let session = begun.session;
     let taken = session.take_frame(&input, flash, sram, usd, &mut buffer);
-    let next = taken.session;
-    let n = taken.length;
-    let end = desk_print::frames(&buffer[..n], out, begun.end);
+    let end = desk_print::frames(&buffer[..taken.length], out, begun.end);
     let noted = why::note(taken.reason, taken.place, notes, begun.noted);
     Telling {
-        session: next,
-        end: end,
-        noted: noted,
+        session: taken.session,
+        end,
+        noted,
     }
 }
 
@@ -260,10 +251,9 @@ fn disobey(number: u64, out: &mut [u8], at: usize) -> usize
     ensures text { out.new ≡ put out.old at (notice number) }
 {
     let text = [NOT_UNDERSTOOD, SPACE];
-    words::copy(out, at, &text, 0, NOTICE_BEGINS);
-    let end = desk_print::number(number, out, at + NOTICE_BEGINS);
-    out[end] = LINE_FEED;
-    end + 1
+    let begun = desk_print::add(&text, out, at);
+    let end = desk_print::number(number, out, begun);
+    desk_print::add(&[LINE_FEED], out, end)
 }
 
 // Answers a line of a number, with reasons where they are asked for.

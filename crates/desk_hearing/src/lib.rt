@@ -147,21 +147,18 @@ pub fn hear(
     ensures fits { result.end ≤ length out.old }
     ensures counts { (result.kept ≤ kept_characters) × (result.lines ≤ desk.lines + length text.now) }
 {
-    let n = text.len();
     let mut here = desk;
-    let mut i = 0;
-    while i < n {
-        let character = text[i];
-        i += 1;
-        if character == LINE_FEED {
-            let heard = go_on(here, line, &text[i..], flash, sram, usd, out);
-            let next = heard.desk;
-            here = next;
-            i += heard.characters;
+    let mut left = text;
+    while let [character, rest @ ..] = left {
+        left = rest;
+        if *character == LINE_FEED {
+            let heard = go_on(here, line, rest, flash, sram, usd, out);
+            here = heard.desk;
+            left = &rest[heard.characters..];
             continue;
         }
         let kept = here.kept;
-        here.kept = keep(line, kept, character);
+        here.kept = keep(line, kept, *character);
     }
     here
 }

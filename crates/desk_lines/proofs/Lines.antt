@@ -1,13 +1,13 @@
 -- Laws of lines and their fields: the kind by the length, the first field, and characters that are too few for one.
-use mathlib.Core.Path.{◌≡◌, refl, ap, subst, ◌∙◌}
+use mathlib.Core.Path.{◌≡◌, refl, sym, ap, subst, ◌∙◌}
 use mathlib.Core.Bool.{Bool, true, false, ◌&&◌}
 use mathlib.Core.List.{List, [], ◌∷◌, ◌++◌}
-use Prim.Native.Nat.{ℕ, zero, suc, ◌+◌, ◌*◌, ◌≤◌, ◌<◌}
+use Prim.Native.Nat.{ℕ, zero, suc, ◌*◌, ◌≤◌, ◌<◌}
 use native.Mathlib.Nat.{not-suc-le-zero, le_of_suc-le-suc}
 use native.Mathlib.Omega.{arith}
 use lib.Dec.{T, eqb, leb, ltb, leb→le, eqb→eq}
 use lib.ListN.{length, get_or, take, drop, length-drop}
-use lib.Seq.{drop-cons, take-append_seam}
+use lib.Seq.{take-append_seam}
 use borrow.Author.Tests.{eq-eqb, ne_eqb, lt-ltb, le-ltb}
 use Rattle.std.specs.Prelude.{if◌then◌else◌}
 use Rattle.words.specs.Over.{put}
@@ -21,52 +21,60 @@ use Rattle.desk_lines.specs.Lines.{letter_u, letter_p, letter_c, most_characters
 use Rattle.desk_lines.specs.declared.Kind.{Kind}
 use Rattle.desk_lines.specs.declared.Kind.TheVariants.{Bytes, Frame, PowerOn, Other}
 
--- what is left from a place that a field has behind it
-pub field_first : (s : List ℕ) (i : ℕ) → i + 2 < length s
-    → drop i s ≡ get_or s i 0 ∷ get_or s (i + 1) 0 ∷ get_or s (i + 2) 0 ∷ drop (i + 3) s
-field_first s i h =
-    let e : i + 1 ≡ suc i = omega arith in
-    let f : i + 2 ≡ suc (suc i) = omega arith in
-    let g : i + 3 ≡ suc (suc (suc i)) = omega arith in
-    rw (e, f, g) (drop-cons s i 0 (omega arith)
-    ∙ ap (λ (l : List ℕ). get_or s i 0 ∷ l) (drop-cons s (suc i) 0 (omega arith)
-    ∙ ap (λ (l : List ℕ). get_or s (suc i) 0 ∷ l) (drop-cons s (suc (suc i)) 0 (omega arith))))
-
 -- characters that are too few for a field are fields where there are none
-pub short_fields : (l : List ℕ) (at n : ℕ) → at + length l ≡ n → length l < 3 → eqb at n ≡ are_fields l
-short_fields [] at n e h = eq-eqb at n (omega arith)
-short_fields (a ∷ []) at n e h = ne_eqb at n λ k. absurd (omega arith)
-short_fields (a ∷ b ∷ []) at n e h = ne_eqb at n λ k. absurd (omega arith)
-short_fields (a ∷ b ∷ c ∷ l) at n e h = absurd (not-suc-le-zero (le_of_suc-le-suc (le_of_suc-le-suc (le_of_suc-le-suc h))))
+pub short_fields : (l : List ℕ) (n : ℕ) → n ≡ length l → length l < 3 → eqb n 0 ≡ are_fields l
+short_fields [] n e h = eq-eqb n 0 e
+short_fields (a ∷ []) n e h = ne_eqb n 0 λ k. absurd (omega arith)
+short_fields (a ∷ b ∷ []) n e h = ne_eqb n 0 λ k. absurd (omega arith)
+short_fields (a ∷ b ∷ c ∷ l) n e h = absurd (not-suc-le-zero (le_of_suc-le-suc (le_of_suc-le-suc (le_of_suc-le-suc h))))
 
--- fields that are left have one first, with two digits, and fields behind it
-some_fields : (l : List ℕ) → 0 < length l → T (are_fields l) → 3 ≤ length l
-some_fields [] h t = absurd (not-suc-le-zero h)
-some_fields (a ∷ []) h t = absurd t
-some_fields (a ∷ b ∷ []) h t = absurd t
-some_fields (a ∷ b ∷ c ∷ l) h t = omega arith
+-- a field and what stands behind it
+pub field_then : (f l : List ℕ) → length f ≡ 3 → are_fields (f ++ l) ≡ (are_fields f && are_fields l)
+field_then (a ∷ b ∷ c ∷ []) l e = by_test (is_field a b c)
+  where
+    by_test : (t : Bool) → (t && are_fields l) ≡ (t && true && are_fields l)
+    by_test true = refl
+    by_test false = refl
+field_then [] l e = absurd (omega arith)
+field_then (a ∷ []) l e = absurd (omega arith)
+field_then (a ∷ b ∷ []) l e = absurd (omega arith)
+field_then (a ∷ b ∷ c ∷ d ∷ f) l e = absurd (omega arith)
 
-pub field_good : (s : List ℕ) (i : ℕ) → i < length s → T (are_fields (drop i s))
-    → (i + 2 < length s) × T (is_digit (get_or s (i + 1) 0)) × T (is_digit (get_or s (i + 2) 0)) × T (are_fields (drop (i + 3) s))
-field_good s i h t =
-    let l = some_fields (drop i s) (simp length-drop (omega arith)) t in
-    let k = length-drop i s in
-    let r : i + 2 < length s = omega arith in
-    let a = get_or s i 0 in
-    let b = get_or s (i + 1) 0 in
-    let d = get_or s (i + 2) 0 in
-    let u : T (is_field a b d && are_fields (drop (i + 3) s)) = rw (field_first s i r) at t in
-    let f = both_left (is_field a b d) (are_fields (drop (i + 3) s)) u in (
-      r,
-      both_right (eqb a space) (is_digit b) (both_left (eqb a space && is_digit b) (is_digit d) f),
-      both_right (eqb a space && is_digit b) (is_digit d) f,
-      both_right (is_field a b d) (are_fields (drop (i + 3) s)) u,
-    )
+-- a piece that is a field or none, and what stands behind it, are fields exactly where the whole is
+pub field_told : (s f t whole : List ℕ) (good : Bool) → s ≡ f ++ t → length f ≡ 3 → good ≡ (eqb (length f) 3 && are_fields f)
+    → are_fields s ≡ are_fields whole → (good && are_fields t) ≡ are_fields whole
+field_told s f t whole good e n g h =
+    ap (λ (b : Bool). b && are_fields t) (g ∙ rw (eq-eqb (length f) 3 n) refl)
+    ∙ sym (ap are_fields e ∙ field_then f t n) ∙ h
 
--- what fields write from a place on: the first field's byte, and what the others write
-pub fields_first : (s : List ℕ) (i : ℕ) → i + 2 < length s
-    → fields (drop i s) ≡ byte_in (get_or s (i + 1) 0) (get_or s (i + 2) 0) ∷ fields (drop (i + 3) s)
-fields_first s i h = rw (field_first s i h) refl
+-- fields that begin with a piece of a field's length: its two digits, the fields behind it, and the bytes that they write
+pub record FieldFirst (s f t : List ℕ) : Type 0 where
+  pub high : T (is_digit (get_or f 1 0))
+  pub low : T (is_digit (get_or f 2 0))
+  pub behind : T (are_fields t)
+  pub byte : fields s ≡ byte_in (get_or f 1 0) (get_or f 2 0) ∷ fields t
+
+pub field_first : (s f t : List ℕ) → s ≡ f ++ t → length f ≡ 3 → T (are_fields s) → FieldFirst s f t
+field_first s (a ∷ b ∷ d ∷ []) t e n h =
+    let u : T (is_field a b d && are_fields t) = rw e at h in
+    let g = both_left (is_field a b d) (are_fields t) u in
+    record {
+      high = both_right (eqb a space) (is_digit b) (both_left (eqb a space && is_digit b) (is_digit d) g);
+      low = both_right (eqb a space && is_digit b) (is_digit d) g;
+      behind = both_right (is_field a b d) (are_fields t) u;
+      byte = ap fields e;
+    }
+field_first s [] t e n h = absurd (omega arith)
+field_first s (a ∷ []) t e n h = absurd (omega arith)
+field_first s (a ∷ b ∷ []) t e n h = absurd (omega arith)
+field_first s (a ∷ b ∷ d ∷ x ∷ f) t e n h = absurd (omega arith)
+
+-- where too few characters for a field are left, no byte is
+pub no_fields : (l : List ℕ) → T (are_fields l) → length l < 3 → fields l ≡ []
+no_fields [] t h = refl
+no_fields (a ∷ []) t h = refl
+no_fields (a ∷ b ∷ []) t h = refl
+no_fields (a ∷ b ∷ c ∷ l) t h = absurd (omega arith)
 
 -- a byte takes a field's characters
 pub length_fields : (l : List ℕ) → T (are_fields l) → length l ≡ 3 * length (fields l)

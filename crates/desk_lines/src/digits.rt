@@ -1,4 +1,5 @@
 // Hex digits, and the byte that two of them write.
+// Kept beside records::digits: a line's digits are capital (desk_lines/specs/Digits·is_digit), a record's of either case (records/specs/Digits·is_digit).
 ghost use Rattle.std.specs.Prelude.{◌≡◌, ◌<◌, T};
 ghost use Rattle.words.specs.Hex.{value_of};
 ghost use Rattle.desk_lines.specs.Digits.{is_digit, byte_in};

@@ -1,6 +1,7 @@
 // Tells of which kind a line is.
-ghost use Rattle.std.specs.Prelude.{◌≡◌, ◌<◌};
-ghost use Rattle.desk_lines.specs.Lines.{is_field, are_fields, are_frame, kind_by, kind_of};
+ghost use Rattle.std.specs.Prelude.{◌≡◌, ◌&&◌, eqb, length};
+ghost use Rattle.words.specs.Hex.{field_characters};
+ghost use Rattle.desk_lines.specs.Lines.{are_fields, are_frame, kind_by, kind_of};
 
 use crate::{Kind, digits};
 use words::{FIELD, SPACE};
@@ -14,27 +15,27 @@ pub const FRAME_LETTER: u8 = b'C';
 // How many characters an ID takes, with the space before it.
 pub const ID: usize = 4;
 
-// Whether three characters are one space and two hex digits.
-fn is_field(space: u8, high: u8, low: u8) -> bool
-    ensures { result ≡ is_field space high low }
+// Whether characters are one space and two hex digits.
+pub fn is_field(field: &[u8]) -> bool
+    ensures { result ≡ (eqb (length field.now) field_characters && are_fields field.now) }
 {
-    (space == SPACE) & digits::is_digit(high) & digits::is_digit(low)
+    match field {
+        [space, high, low] => (*space == SPACE) & digits::is_digit(*high) & digits::is_digit(*low),
+        _ => false,
+    }
 }
 
 // Whether characters are hex bytes, each after one space.
 pub fn are_fields(rest: &[u8]) -> bool
     ensures { result ≡ are_fields rest.now }
 {
-    let n = rest.len();
-    let mut at = 0;
-    while FIELD <= n - at {
-        let good = is_field(rest[at], rest[at + 1], rest[at + 2]);
+    for field in rest.chunks_exact(FIELD) {
+        let good = is_field(field);
         if !good {
             return false;
         }
-        at += FIELD;
     }
-    at == n
+    rest.len() % FIELD == 0
 }
 
 // Whether characters are an ID and the hex bytes of a frame.
@@ -74,13 +75,8 @@ fn kind_by(letter: u8, rest: &[u8]) -> Kind
 pub fn kind(line: &[u8]) -> Kind
     ensures { result ≡ kind_of line.now }
 {
-    let n = line.len();
-    if n == 0 {
-        return Kind::Other;
-    }
-    if n <= MOST_CHARACTERS {
-        kind_by(line[0], &line[1..])
-    } else {
-        Kind::Other
+    match line {
+        [letter, rest @ ..] if line.len() <= MOST_CHARACTERS => kind_by(*letter, rest),
+        _ => Kind::Other,
     }
 }

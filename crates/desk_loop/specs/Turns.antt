@@ -1,5 +1,5 @@
 -- What is so between two reads, and what some text that was read has left.
-use Rattle.std.specs.Prelude.{ℕ, ◌+◌, ◌*◌, ◌≤◌, ◌≡◌, Bool, ◌&&◌, List, [], ltb, length}
+use Rattle.std.specs.Prelude.{ℕ, ◌+◌, ◌*◌, ◌≤◌, ◌≡◌, Bool, List, [], Result, IfOk, ltb, length}
 use Rattle.words.specs.Over.{put}
 use Rattle.memories.specs.Memories.{Memories}
 use Rattle.boot.specs.Calls.{powered}
@@ -7,6 +7,7 @@ use Rattle.desk_answers.specs.Promise.{character_room}
 use Rattle.desk_answers.specs.Told.{◌then◌}
 use Rattle.desk_answers.specs.Desk as D
 use Rattle.desk_answers.specs.Desk.{kept_characters, hears, input_ends}
+use Rattle.keeping.specs.declared.Untold.{Untold}
 use Rattle.desk_hearing.specs.declared.Desk.{Desk}
 
 -- the most characters that one read brings
@@ -24,25 +25,25 @@ pub record Ready (d : Desk) (line out : List ℕ) : Type 0 where
   pub written : d.end ≡ 0
   pub answers : out_characters ≤ length out
 
--- a read has brought some text: the desk is then as the paper says of it, and its answers stand at the front of the room for them; it goes on where
--- there was any, and all that was to be kept and answered could be
-pub record Turns (before : D.Desk) (lent : List ℕ) (after : D.Desk) (left : List ℕ) (well going : Bool) : Type 0 where
+-- a read has brought some text: the desk is then as the paper says of it, and its answers stand at the front of the room for them; where all that
+-- was to be kept and answered could be, it goes on where there was any
+pub record Turns (before : D.Desk) (lent : List ℕ) (after : D.Desk) (left : List ℕ) (going : Result Bool Untold) : Type 0 where
   pub text : List ℕ
   pub few : length text ≤ read_characters
   pub desk : after ≡ (hears text before).state
   pub told : left ≡ put lent 0 (hears text before).text
-  pub more : going ≡ (well && ltb 0 (length text))
+  pub more : IfOk going (λ more. more ≡ ltb 0 (length text))
 
 -- the desk at the start, at a board with such memories
 abbrev pub desk_at : Bool → Memories → D.Desk
 desk_at why m = record { why = why; state = powered m; lines = 0; line = [] }
 
--- a desk, asked for reasons or not, is what a board that began with these memories, just powered, becomes by some text
-pub record HasHeard (why : Bool) (m : Memories) (d : D.Desk) : Type 0 where
+-- a desk is what another becomes by some text
+pub record HasHeard (before d : D.Desk) : Type 0 where
   pub text : List ℕ
-  pub desk : d ≡ (hears text (desk_at why m)).state
+  pub desk : d ≡ (hears text before).state
 
--- a desk is what such a board becomes by some text and the end of the input
+-- a desk, asked for reasons or not, is what a board that began with these memories, just powered, becomes by some text and the end of the input
 pub record LeftBy (why : Bool) (m : Memories) (d : D.Desk) : Type 0 where
   pub text : List ℕ
   pub desk : d ≡ (hears text (desk_at why m) then input_ends).state

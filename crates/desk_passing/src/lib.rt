@@ -1,7 +1,7 @@
 // Lines of frames that a session only gathers, which are taken many at a time.
 #![tactic(auto)]
 
-ghost use Rattle.std.specs.Prelude.{◌≡◌, ◌+◌, ◌≤◌, ◌<◌, length};
+ghost use Rattle.std.specs.Prelude.{◌≡◌, ◌+◌, ◌≤◌, IfSome, length};
 ghost use Rattle.words.specs.Over.{put};
 ghost use Rattle.frames.specs.Frames.{classic};
 ghost use Rattle.desk_passing.specs.Passing.{SilentLine, nods, PassesLines};
@@ -12,10 +12,7 @@ use desk_lines::line::ID;
 use desk_written::first;
 use desk_written::first::LINE_FEED;
 
-// How many characters answer a line that has no reply.
-const NOD_CHARACTERS: usize = 2;
-
-// A line of a frame that is only gathered: where it ends, and how many data bytes it has; none where the line is another one.
+// A line of a frame that is only gathered: where it ends, and how many data bytes it has.
 #[derive(Clone, Copy)]
 pub struct Silent {
     pub end: usize,
@@ -30,26 +27,26 @@ pub struct Gathered {
     pub characters: usize,
 }
 
-// Whether a text begins with the line of a frame that a step of CAN only gathers; its data bytes are put into a slice.
-fn silent_line(step: u8, taken: usize, expected: usize, text: &[u8], new: &mut [u8]) -> Silent
+// The line at the front of a text, if it is of a frame that a step of CAN only gathers; its data bytes are put into a slice.
+fn silent_line(
+    step: u8,
+    taken: usize,
+    expected: usize,
+    text: &[u8],
+    new: &mut [u8],
+) -> Option<Silent>
     requires taken_le_expected { taken ≤ expected }
     requires len { length new.old ≡ classic.largest }
-    ensures { 0 < result.count → SilentLine step taken expected text.now result.end result.count new.new }
+    ensures { IfSome result (λ line. SilentLine step taken expected text.now line.end line.count new.new) }
 {
-    let end = first::frame_first(text);
-    if end == 0 {
-        return Silent { end: 0, count: 0 };
-    }
+    let end = first::frame_first(text)?;
     let count = desk_written::bytes(&text[1 + ID..end], new);
     let id = desk_written::id(&text[1..end]);
     let silent = boot::gathering::silent_frame(step, taken, expected, id, count);
     if silent {
-        Silent {
-            end: end,
-            count: count,
-        }
+        Some(Silent { end, count })
     } else {
-        Silent { end: 0, count: 0 }
+        None
     }
 }
 
@@ -59,37 +56,33 @@ pub fn gather(session: Session, text: &[u8], right: bool) -> Gathered
 {
     let mut here = session;
     let mut lines = 0u64;
-    let mut i = 0;
+    let mut characters = 0;
     let hears = boot::gathering::hears_frames(session, right);
     if !hears {
         return Gathered {
-            session: here,
-            lines: lines,
-            characters: i,
+            session,
+            lines,
+            characters,
         };
     }
-    let n = text.len();
     let mut new = [0u8; frames::CLASSIC];
-    while i < n {
+    while let Some(line) = silent_line(
+        here.step,
+        here.taken,
+        here.expected,
+        &text[characters..],
+        &mut new,
+    ) {
         let at = here.taken;
-        let silent = silent_line(here.step, at, here.expected, &text[i..], &mut new);
-        let count = silent.count;
-        if count == 0 {
-            return Gathered {
-                session: here,
-                lines: lines,
-                characters: i,
-            };
-        }
-        carriers::gather::stage(&mut here.staged, at, &new, count);
-        here.taken = at + count;
+        carriers::gather::stage(&mut here.staged, at, &new, line.count);
+        here.taken = at + line.count;
         lines += 1;
-        i += silent.end + 1;
+        characters += line.end + 1;
     }
     Gathered {
         session: here,
-        lines: lines,
-        characters: i,
+        lines,
+        characters,
     }
 }
 
@@ -99,13 +92,9 @@ pub fn nod(lines: u64, out: &mut [u8], at: usize) -> usize
     ensures end { result ≡ at + lines + lines }
     ensures text { out.new ≡ put out.old at (nods lines) }
 {
-    let answer = [ANSWERED, LINE_FEED];
     let mut end = at;
-    let mut i = 0u64;
-    while i < lines {
-        words::copy(out, end, &answer, 0, NOD_CHARACTERS);
-        end += NOD_CHARACTERS;
-        i += 1;
+    for _ in 0..lines {
+        end = desk_print::add(&[ANSWERED, LINE_FEED], out, end);
     }
     end
 }

@@ -7,8 +7,8 @@ use native.Mathlib.Nat.{min-eq_left, min-eq_right, min-le_left, min-le_right}
 use native.Mathlib.Numerals.{add-one}
 use native.Mathlib.Omega.{arith}
 use lib.Dec.{leb}
-use lib.ListN.{length, get_or, take, drop, length-take, length-drop}
-use lib.Seq.{take-suc, take_all, length-take-le, drop-drop}
+use lib.ListN.{length, get_or, take, drop, length-take, length-drop, length-append}
+use lib.Seq.{take-suc, take_all, length-take-le, take-append_seam, drop-append_seam}
 use borrow.Author.Tests.{leb-true, leb-false}
 use Rattle.words.specs.Bytes.{number}
 use Rattle.words.specs.Hex.{space}
@@ -100,19 +100,17 @@ module _ (l : List ℕ) (e : length l ≡ 11) (b : get_or l 1 0 < 256) (k : ℕ)
       let n = min-le_right (get_or l 2 0) 8 in
       (omega arith, omega arith)
 
--- a turn: one frame is printed, and what remains is left
-pub record Turn (s : List ℕ) (i : ℕ) : Type 0 where
-  pub within : i + frame_bytes classic ≤ length s
-  pub whole : length (take (i + frame_bytes classic - i) (drop i s)) ≡ frame_bytes classic
-  pub first : spelled_frames (drop i s) ≡ spelled_frame (frame_in (take (i + frame_bytes classic - i) (drop i s))) ++ spelled_frames (drop (i + frame_bytes classic) s)
+-- the first frame is printed, and then what remains
+pub first_spelled : (s f t : List ℕ) → s ≡ f ++ t → length f ≡ frame_bytes classic → spelled_frames s ≡ spelled_frame (frame_in f) ++ spelled_frames t
+first_spelled s f t e n =
+    let l = length-append f t in
+    let first : take (frame_bytes classic) s ≡ f =
+    ap (λ (k : ℕ). take k s) (sym n) ∙ ap (λ (x : List ℕ). take (length f) x) e ∙ take-append_seam f t in
+    let others : drop (frame_bytes classic) s ≡ t =
+    ap (λ (k : ℕ). drop k s) (sym n) ∙ ap (λ (x : List ℕ). drop (length f) x) e ∙ drop-append_seam f t in
+    rw (cut_more (frame_bytes classic) s (omega arith) (omega (arith, ap length e)), first, others) refl
 
-pub turn : (s : List ℕ) (i : ℕ) → i < length s → length s % frame_bytes classic ≡ 0 → i % frame_bytes classic ≡ 0 → Turn s i
-turn s i h e f =
-    let w : i + frame_bytes classic ≤ length s = omega arith in
-    let d = length-drop i s in
-    let a : i + frame_bytes classic - i ≡ frame_bytes classic = omega arith in
-    record {
-      within = w;
-      whole = rw a (length-take-le (frame_bytes classic) (drop i s) (omega arith));
-      first = rw (a, cut_more (frame_bytes classic) (drop i s) (omega arith) (omega arith), drop-drop (frame_bytes classic) i s) refl;
-    }
+-- where nothing is left nothing is printed
+pub none_spelled : (s : List ℕ) → length s ≡ 0 → spelled_frames s ≡ []
+none_spelled [] e = refl
+none_spelled (b ∷ s) e = absurd (omega arith)

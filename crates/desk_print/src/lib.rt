@@ -1,7 +1,9 @@
 // Prints bytes, frames, numbers and texts.
+// Kept: each prints by `(out, at) -> end`. A struct of the room and its end, `page.add(text)`, would promise the same `Adds`, and besides that it still
+// lends the same room: `(page.new.room.ghost_name ≡ page.old.room.ghost_name) × Adds page.old.room.now page.old.end page.new.end page.new.room.now text`.
 #![tactic(auto)]
 
-ghost use Rattle.std.specs.Prelude.{◌≡◌, ◌∷◌, ◌+◌, ◌*◌, ◌%◌, ◌≤◌, ◌<◌, length, take};
+ghost use Rattle.std.specs.Prelude.{◌≡◌, ◌∷◌, ◌+◌, ◌*◌, ◌%◌, ◌≤◌, ◌<◌, length};
 ghost use Rattle.words.specs.Hex.{space, field_characters};
 ghost use Rattle.words.specs.Over.{put};
 ghost use Rattle.frames.specs.Frames.{classic, frame_bytes, frame_in};
@@ -9,10 +11,16 @@ ghost use Rattle.desk_print.specs.Adds.{Adds};
 ghost use Rattle.desk_print.specs.Digits.{digit_of, digits_of, decimal};
 ghost use Rattle.desk_print.specs.Prints.{spelled, unspaced, spelled_frame, spelled_frames, number_room};
 
-use words::{FIELD, SPACE};
+use words::SPACE;
 
 // The character between the ID of a frame and its data.
 const COLON: u8 = b':';
+
+// The most digits of a number.
+const NUMBER_ROOM: usize = 20;
+
+// How many hex digits a byte has.
+const DIGITS: usize = 2;
 
 // The hex digit of a value.
 pub fn digit(value: u8) -> u8
@@ -26,39 +34,11 @@ pub fn digit(value: u8) -> u8
     }
 }
 
-// Prints a byte after one space.
-fn byte(value: u8, out: &mut [u8], at: usize)
-    requires { at + field_characters ≤ length out.old }
-    ensures { out.new ≡ put out.old at (space ∷ digits_of value) }
+// The two hex digits of a byte.
+fn digits(byte: u8) -> [u8; DIGITS]
+    ensures { result ≡ digits_of byte }
 {
-    let text = [SPACE, digit(value / 16), digit(value % 16)];
-    words::copy(out, at, &text, 0, FIELD);
-}
-
-// Prints the first n bytes of a reply, each after one space, and tells where they end.
-pub fn bytes(reply: &[u8], n: usize, out: &mut [u8], at: usize) -> usize
-    requires { (n ≤ length reply.now) × (at + n * field_characters ≤ length out.old) }
-    ensures { (result ≡ at + n * field_characters) × (out.new ≡ put out.old at (spelled (take n reply.now))) }
-{
-    let mut end = at;
-    let mut i = 0;
-    while i < n {
-        byte(reply[i], out, end);
-        end += FIELD;
-        i += 1;
-    }
-    end
-}
-
-// Prints a number in decimal, and tells where it ends.
-pub fn number(n: u64, out: &mut [u8], at: usize) -> usize
-    requires { at + number_room ≤ length out.old }
-    ensures { (result ≡ at + length (decimal n)) × (result ≤ at + number_room) × (out.new ≡ put out.old at (decimal n)) }
-{
-    let mut text = [0u8; 20];
-    let k = io::decimal(n, &mut text);
-    words::copy(out, at, &text[..k], 0, k);
-    at + k
+    [digit(byte / 16), digit(byte % 16)]
 }
 
 // Adds characters at a place, and tells where they end.
@@ -71,19 +51,37 @@ pub fn add(text: &[u8], out: &mut [u8], at: usize) -> usize
     at + n
 }
 
+// Prints the bytes of a reply, each after one space, and tells where they end.
+pub fn bytes(reply: &[u8], out: &mut [u8], at: usize) -> usize
+    requires { at + length reply.now * field_characters ≤ length out.old }
+    ensures { (result ≡ at + length reply.now * field_characters) × (out.new ≡ put out.old at (spelled reply.now)) }
+{
+    let mut end = at;
+    for b in reply {
+        let [high, low] = digits(*b);
+        end = add(&[SPACE, high, low], out, end);
+    }
+    end
+}
+
+// Prints a number in decimal, and tells where it ends.
+pub fn number(n: u64, out: &mut [u8], at: usize) -> usize
+    requires { at + number_room ≤ length out.old }
+    ensures { (result ≡ at + length (decimal n)) × (result ≤ at + number_room) × (out.new ≡ put out.old at (decimal n)) }
+{
+    let mut text = [0u8; NUMBER_ROOM];
+    let k = io::decimal(n, &mut text);
+    add(&text[..k], out, at)
+}
+
 // Prints bytes in hex, unspaced, and tells where they end.
 fn unspaced(bytes: &[u8], out: &mut [u8], at: usize) -> usize
     requires { at + length bytes.now * 2 ≤ length out.old }
     ensures { (result ≡ at + length bytes.now * 2) × (out.new ≡ put out.old at (unspaced bytes.now)) }
 {
-    let n = bytes.len();
     let mut end = at;
-    let mut i = 0;
-    while i < n {
-        let text = [digit(bytes[i] / 16), digit(bytes[i] % 16)];
-        words::copy(out, end, &text, 0, 2);
-        end += 2;
-        i += 1;
+    for b in bytes {
+        end = add(&digits(*b), out, end);
     }
     end
 }
@@ -97,16 +95,10 @@ fn frame(frame: &[u8], out: &mut [u8], at: usize) -> usize
     let high = frame[0];
     let low = frame[1];
     let dlc = frame[2];
-    let head = [
-        SPACE,
-        digit(high % 16),
-        digit(low / 16),
-        digit(low % 16),
-        COLON,
-    ];
-    words::copy(out, at, &head, 0, 5);
+    let [middle, last] = digits(low);
+    let begun = add(&[SPACE, digit(high % 16), middle, last, COLON], out, at);
     let end = frames::HEAD + words::least(dlc as usize, frames::CLASSIC);
-    unspaced(&frame[frames::HEAD..end], out, at + 5)
+    unspaced(&frame[frames::HEAD..end], out, begun)
 }
 
 // Prints the frames of a reply, and tells where they end.
@@ -115,13 +107,9 @@ pub fn frames(reply: &[u8], out: &mut [u8], at: usize) -> usize
     ensures { (result ≡ at + length (spelled_frames reply.now)) × (result ≤ at + 2 * length reply.now)
         × (out.new ≡ put out.old at (spelled_frames reply.now)) }
 {
-    let n = reply.len();
     let mut end = at;
-    let mut i = 0;
-    while i < n {
-        let next = i + frames::BYTES;
-        end = frame(&reply[i..next], out, end);
-        i = next;
+    for f in reply.chunks_exact(frames::BYTES) {
+        end = frame(f, out, end);
     }
     end
 }

@@ -15,7 +15,7 @@ fn run_script<R: System>(rt: &R, why: bool, name: &[u8]) {
 // Runs desk on the file that an argument names, unless that asks for reasons, and tells whether reasons are asked for from then on.
 fn follow<R: System>(rt: &R, i: usize, why: bool) -> bool {
     let mut argument = io::buffer();
-    let length = files::word(rt, i, &mut argument);
+    let length = files::word(rt, i, &mut argument).unwrap_or(0);
     let asks = desk_loop::asks_why(&argument[..length]);
     if asks {
         return true;

@@ -1,12 +1,12 @@
 -- Hex bytes at the front of a text, one more at a time, and the line that they and an ID make.
-use mathlib.Core.Path.{◌≡◌, refl, ap, subst, ◌∙◌}
-use mathlib.Core.Bool.{◌&&◌}
+use mathlib.Core.Path.{◌≡◌, refl, sym, ap, subst, ◌∙◌}
+use mathlib.Core.Bool.{true, ◌&&◌}
 use mathlib.Core.List.{List, [], ◌∷◌, ◌++◌}
 use Prim.Native.Nat.{ℕ, zero, suc, ◌+◌, ◌-◌, ◌≤◌, ◌<◌}
 use native.Mathlib.Omega.{arith}
 use lib.Dec.{T, eqb, leb, eqb→eq, leb→le}
-use lib.ListN.{length, get_or, take, drop, length-take}
-use lib.Seq.{length-take-le, split_at}
+use lib.ListN.{length, get_or, take, drop, length-take, length-drop, length-append}
+use lib.Seq.{length-take-le, split_at, take-add, take-append_seam, drop-append_seam, drop-drop}
 use borrow.Author.Tests.{eq-eqb, ne_eqb, le-leb, lt-ltb}
 use Rattle.words.proofs.Tests.{both_left, both_right, holds_true}
 use Rattle.words.specs.Hex.{space}
@@ -16,25 +16,27 @@ use Rattle.desk_lines.specs.declared.Kind.TheVariants.{Frame}
 use Rattle.desk_lines.proofs.Lines.{frame_good}
 use Rattle.desk_written.specs.First.{endless, behind_letter, FrameFirst}
 
--- a field behind fields makes fields
-pub one_field_more : (s : List ℕ) (k : ℕ) → k + 3 ≤ length s → T (are_fields (take k s)) → T (is_field (get_or s k 0) (get_or s (k + 1) 0) (get_or s (k + 2) 0))
-    → T (are_fields (take (k + 3) s))
-one_field_more (a ∷ b ∷ d ∷ s) zero h t f = rw (holds_true (is_field a b d) f) tt
-one_field_more (a ∷ b ∷ d ∷ s) (suc zero) h t f = absurd t
-one_field_more (a ∷ b ∷ d ∷ s) (suc (suc zero)) h t f = absurd t
-one_field_more (a ∷ b ∷ d ∷ s) (suc (suc (suc k))) h t f =
-    let three : suc (suc (suc k)) + 3 ≡ suc (suc (suc (k + 3))) = omega arith in
-    let two : suc (suc (suc k)) + 2 ≡ suc (suc (suc (k + 2))) = omega arith in
-    let one : suc (suc (suc k)) + 1 ≡ suc (suc (suc (k + 1))) = omega arith in
-    rw (three, holds_true (is_field a b d) (both_left (is_field a b d) (are_fields (take k s)) t))
-    (one_field_more s k (omega arith) (both_right (is_field a b d) (are_fields (take k s)) t) (rw (one, two) at f))
-one_field_more (a ∷ b ∷ []) k h t f = absurd (omega arith)
-one_field_more (a ∷ []) k h t f = absurd (omega arith)
-one_field_more [] k h t f = absurd (omega arith)
+-- fields, one behind the other, are fields
+fields_then : (a b : List ℕ) → T (are_fields a) → T (are_fields b) → T (are_fields (a ++ b))
+fields_then [] b t u = u
+fields_then (x ∷ []) b t u = absurd t
+fields_then (x ∷ y ∷ []) b t u = absurd t
+fields_then (x ∷ y ∷ z ∷ a) b t u =
+    rw (holds_true (is_field x y z) (both_left (is_field x y z) (are_fields a) t)) (fields_then a b (both_right (is_field x y z) (are_fields a) t) u)
 
--- three characters that pass their tests are a field
-pub field_by : (a b d : ℕ) → a ≡ space → T (is_digit b) → T (is_digit d) → T (is_field a b d)
-field_by a b d e f g = rw (eq-eqb a space e, holds_true (is_digit b) f, holds_true (is_digit d) g) tt
+-- a piece behind fields that is a field makes fields
+pub one_field_more : (s : List ℕ) (k : ℕ) (f t : List ℕ) → drop k s ≡ f ++ t → length f ≡ 3 → k ≤ length s → T (are_fields (take k s))
+    → true ≡ (eqb (length f) 3 && are_fields f) → (k + 3 ≤ length s) × (t ≡ drop (k + 3) s) × T (are_fields (take (k + 3) s))
+one_field_more s k f t e n h u g =
+    let l : length (drop k s) ≡ length f + length t = ap length e ∙ length-append f t in
+    let d = length-drop k s in
+    let good : T (are_fields f) = subst T (g ∙ rw (eq-eqb (length f) 3 n) refl) tt in
+    let front : take 3 (drop k s) ≡ f = ap (λ (m : ℕ). take m (drop k s)) (sym n) ∙ ap (λ (x : List ℕ). take (length f) x) e ∙ take-append_seam f t in
+    let others : drop 3 (drop k s) ≡ t = ap (λ (m : ℕ). drop m (drop k s)) (sym n) ∙ ap (λ (x : List ℕ). drop (length f) x) e ∙ drop-append_seam f t in (
+      omega arith,
+      sym others ∙ drop-drop 3 k s,
+      rw (take-add k 3 s, front) (fields_then (take k s) f u good),
+    )
 
 -- a letter, an ID, hex bytes and LF that pass their tests are the line of a frame
 pub frame_at : (text : List ℕ) (r end : ℕ) → end ≡ 5 + r → end < length text → T (are_fields (take r (drop 5 text)))

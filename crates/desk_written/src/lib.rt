@@ -3,37 +3,25 @@
 
 pub mod first;
 
-ghost use Rattle.std.specs.Prelude.{◌≡◌, ◌+◌, ◌*◌, ◌≤◌, ◌<◌, T, length, get_or, drop};
+ghost use Rattle.std.specs.Prelude.{◌≡◌, ◌*◌, ◌≤◌, T, length};
 ghost use Rattle.words.specs.Hex.{field_characters};
 ghost use Rattle.words.specs.Over.{put};
 ghost use Rattle.frames.specs.Frames.{classic, frame_bytes};
-ghost use Rattle.desk_lines.specs.Digits.{byte_in};
 ghost use Rattle.desk_lines.specs.Lines.{are_fields, fields, are_frame, id_in, frame_written};
 
 use desk_lines::digits;
 use desk_lines::line::ID;
 use words::FIELD;
 
-// The byte that the hex byte at a place writes.
-pub fn byte_at(rest: &[u8], i: usize) -> u8
-    requires { (i < length rest.now) × T (are_fields (drop i rest.now)) }
-    ensures { result ≡ byte_in (get_or rest.now (i + 1) 0) (get_or rest.now (i + 2) 0) }
-{
-    digits::byte_in(rest[i + 1], rest[i + 2])
-}
-
 // Puts the bytes that hex bytes write at the front of a slice, and tells how many they are.
 pub fn bytes(rest: &[u8], out: &mut [u8]) -> usize
     requires { T (are_fields rest.now) × (length rest.now ≤ field_characters * length out.old) }
     ensures { (result ≡ length (fields rest.now)) × (out.new ≡ put out.old 0 (fields rest.now)) }
 {
-    let n = rest.len();
     let mut count = 0;
-    let mut i = 0;
-    while i < n {
-        out[count] = byte_at(rest, i);
+    for field in rest.chunks_exact(FIELD) {
+        out[count] = digits::byte_in(field[1], field[2]);
         count += 1;
-        i += FIELD;
     }
     count
 }

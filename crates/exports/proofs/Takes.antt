@@ -69,18 +69,20 @@ module _ (o : Outcome) (room lent : List ℕ) (of : Of o (session_in lent)) {r :
   pub accepted_length : r.number ≡ 0 → length lent ≡ session_length
   accepted_length z = sound_length lent (of.firm (numbered ∙ ap (λ (n : ℕ). eqb n 0) z))
 
-  -- with the session handed on, that is what the exported call promises
-  pub handed_on_lem : {after : List ℕ} → HandsOn r lent after → Takes o room lent r.number r.length r.reason r.place after m buffer
-  handed_on_lem {after} h = record {
+  -- with the session handed on and the memories back in their slices, that is what the exported call promises
+  pub handed_on_lem : {after : List ℕ} {back : Memories} → HandsOn r lent after
+      → back.flash ≡ m.flash → back.sram ≡ m.sram → back.usd ≡ m.usd
+      → Takes o room lent r.number r.length r.reason r.place after back buffer
+  handed_on_lem {after} h flash sram usd = record {
     leaves = record {
       number = t.number;
       count = t.count;
       reason = t.reason;
       place = t.place;
       session = refl;
-      flash = t.flash;
-      sram = t.sram;
-      usd = t.usd;
+      flash = flash ∙ t.flash;
+      sram = sram ∙ t.sram;
+      usd = usd ∙ t.usd;
       buffer = t.buffer;
     };
     session =

@@ -8,6 +8,7 @@ ghost use Rattle.session_bytes.specs.Sessions.{session_in};
 ghost use Rattle.exports.specs.Promise.{PowersOn, Takes, TakesBytes};
 
 use boot::Session;
+use memories::Lent;
 
 // Powers the board on: the session becomes a fresh one.
 pub fn oilthicket_power_on(session: &mut [u8]) -> u8
@@ -36,7 +37,8 @@ pub fn oilthicket_take_byte(
         buffer.old session.old result length.new reason.new place.new session.new (are flash sram usd)
         buffer.new }
 {
-    let taken = session_bytes::read(session).take_byte(byte, flash, sram, usd, buffer);
+    let mut lent = Lent { flash, sram, usd };
+    let taken = session_bytes::read(session).take_byte(byte, &mut lent, buffer);
     *length = taken.length;
     *reason = taken.reason;
     *place = taken.place;
@@ -59,7 +61,8 @@ pub fn oilthicket_take_frame(
         buffer.old session.old result length.new reason.new place.new session.new (are flash sram usd)
         buffer.new }
 {
-    let taken = session_bytes::read(session).take_frame(frame, flash, sram, usd, buffer);
+    let mut lent = Lent { flash, sram, usd };
+    let taken = session_bytes::read(session).take_frame(frame, &mut lent, buffer);
     *length = taken.length;
     *reason = taken.reason;
     *place = taken.place;
@@ -83,7 +86,8 @@ pub fn oilthicket_take_bytes(
         session.old result taken.new length.new reason.new place.new session.new (are flash sram usd)
         buffer.new }
 {
-    let took = session_bytes::read(session).take_bytes(bytes, flash, sram, usd, buffer);
+    let mut lent = Lent { flash, sram, usd };
+    let took = session_bytes::read(session).take_bytes(bytes, &mut lent, buffer);
     let call = took.call;
     *taken = took.count;
     *length = call.length;

@@ -4,7 +4,7 @@
 pub mod system;
 pub mod texts;
 
-ghost use Rattle.std.specs.Prelude.{◌+◌, ◌≤◌, length};
+ghost use Rattle.std.specs.Prelude.{◌+◌, ◌≤◌, length, IfSome};
 ghost use Rattle.std.specs.Io.{ReadsAtMost};
 ghost use Rattle.io.specs.Counts.{IsPrefixLen};
 
@@ -19,21 +19,19 @@ pub const NAME: usize = 4096;
 
 const PART: usize = 64;
 
-// How many bytes a file has brought, and whether it could not be read.
-#[derive(Clone, Copy)]
-pub struct Got {
-    pub length: usize,
-    pub failed: bool,
-}
+// Something failed, and why it did is said.
+#[derive(Clone, Copy, Debug, PartialEq, Eq)]
+pub struct Said;
 
 // Says what failed, as it is called, and the system's text for the error.
-pub fn fail<R: System>(rt: &R, what: &[u8], error: &Error) {
+pub fn fail<R: System>(rt: &R, what: &[u8], error: &Error) -> Said {
     let mut room = [0u8; texts::ROOM];
     let n = texts::put(error, &mut room);
     rt.complain(what);
     rt.complain(b": ");
     rt.complain(&room[..n]);
     rt.complain(b"\n");
+    Said
 }
 
 // The error of an argument that is not there, or for which there is no room.
@@ -44,33 +42,19 @@ pub fn error_of(error: FillError) -> Error {
     }
 }
 
-// How long argument i of the program is, which is put into a room: 0 where it is not there, or longer than the room.
-pub fn word<R: System>(rt: &R, i: usize, room: &mut [u8]) -> usize
-    ensures { IsPrefixLen result room.new }
+// How long argument i of the program is, which is put into a room, unless it is not there, or longer than the room.
+pub fn word<R: System>(rt: &R, i: usize, room: &mut [u8]) -> Option<usize>
+    ensures { IfSome result (λ n. IsPrefixLen n room.new) }
 {
-    match rt.arg(i, room) {
-        Ok(length) => length,
-        Err(_) => 0,
-    }
+    rt.arg(i, room).ok()
 }
 
 // Argument i of the program, or says what is wrong with it, by what it is called.
-pub fn argument<R: System>(rt: &R, i: usize, called: &[u8], room: &mut [u8]) -> Got
-    ensures { IsPrefixLen result.length room.new }
+pub fn argument<R: System>(rt: &R, i: usize, called: &[u8], room: &mut [u8]) -> Result<usize, Said>
+    ensures { ReadsAtMost result room.new }
 {
-    match rt.arg(i, room) {
-        Ok(length) => Got {
-            length,
-            failed: false,
-        },
-        Err(error) => {
-            fail(rt, called, &error_of(error));
-            Got {
-                length: 0,
-                failed: true,
-            }
-        }
-    }
+    rt.arg(i, room)
+        .map_err(|error| fail(rt, called, &error_of(error)))
 }
 
 // Whether the program has an argument i.
@@ -80,12 +64,9 @@ fn has_argument<R: System>(rt: &R, i: usize) -> bool {
 
 // How many arguments the program was started with, its own name among them.
 pub fn argument_count<R: System>(rt: &R) -> usize {
-    for i in 0..usize::MAX {
-        if !has_argument(rt, i) {
-            return i;
-        }
-    }
-    usize::MAX
+    (0..usize::MAX)
+        .position(|i| !has_argument(rt, i))
+        .unwrap_or(usize::MAX)
 }
 
 // Opens the file of a name to read it.
@@ -100,19 +81,16 @@ pub fn open<R: System>(rt: &R, name: &[u8]) -> Result<R::File, Error> {
 pub fn read_once<F: Read>(from: &mut F, room: &mut [u8]) -> usize
     ensures { IsPrefixLen result room.new }
 {
-    match from.read(room) {
-        Ok(came) => came,
-        Err(_) => 0,
-    }
+    from.read(room).unwrap_or(0)
 }
 
 // Reads until the room is full, the file ends or a read fails.
 fn read_all<F: Read>(file: &mut F, room: &mut [u8]) -> Result<usize, Error>
     ensures { ReadsAtMost result room.new }
 {
-    let n = room.len();
+    // Kept: a read tells how many bytes have come, so no iterator gives the places (d).
     let mut done = 0;
-    while done < n {
+    while done < room.len() {
         let came = file.read(&mut room[done..])?;
         if came == 0 {
             return Ok(done);
@@ -131,22 +109,10 @@ fn read_named<R: System>(rt: &R, name: &[u8], room: &mut [u8]) -> Result<usize, 
 }
 
 // Reads the file of a name, or says why it cannot.
-pub fn read<R: System>(rt: &R, name: &[u8], room: &mut [u8]) -> Got
-    ensures { IsPrefixLen result.length room.new }
+pub fn read<R: System>(rt: &R, name: &[u8], room: &mut [u8]) -> Result<usize, Said>
+    ensures { ReadsAtMost result room.new }
 {
-    match read_named(rt, name, room) {
-        Ok(length) => Got {
-            length,
-            failed: false,
-        },
-        Err(error) => {
-            fail(rt, name, &error);
-            Got {
-                length: 0,
-                failed: true,
-            }
-        }
-    }
+    read_named(rt, name, room).map_err(|error| fail(rt, name, &error))
 }
 
 // Whether there is no file of a name.
@@ -200,24 +166,12 @@ fn rename<R: System>(rt: &R, from: &[u8], to: &[u8]) -> Result<(), Error> {
     }
 }
 
-// Gives a file that is written its own name, or says why it cannot and removes it.
-fn give_name<R: System>(rt: &R, part: &[u8], name: &[u8]) -> bool {
-    match rename(rt, part, name) {
-        Ok(()) => true,
-        Err(error) => {
-            fail(rt, name, &error);
-            remove(rt, part);
-            false
-        }
-    }
-}
-
 // Says why a file cannot be begun: of the name that it was to have, or of the one under which it is written, where that is taken.
-fn say_unmade<R: System>(rt: &R, name: &[u8], part: &[u8], error: &Error) {
+fn say_unmade<R: System>(rt: &R, name: &[u8], part: &[u8], error: &Error) -> Said {
     if error.kind() == ErrorKind::AlreadyExists {
-        fail(rt, part, error);
+        fail(rt, part, error)
     } else {
-        fail(rt, name, error);
+        fail(rt, name, error)
     }
 }
 
@@ -229,42 +183,52 @@ pub fn say_number<R: System>(rt: &R, n: u64) {
 }
 
 // Says that a name is too long to write its file.
-fn say_long<R: System>(rt: &R, name: &[u8]) {
+fn say_long<R: System>(rt: &R, name: &[u8]) -> Said {
     rt.complain(name);
     rt.complain(b": the name has more than ");
     say_number(rt, NAME as u64);
     rt.complain(b" characters\n");
+    Said
 }
 
-// Writes a file that is made and gives it its name, or says why it cannot and removes it.
-fn finish<R: System>(rt: &R, file: R::File, part: &[u8], name: &[u8], bytes: &[u8]) -> bool {
+// Writes a file that is made, and gives it its name.
+fn fill<R: System>(
+    rt: &R,
+    file: R::File,
+    part: &[u8],
+    name: &[u8],
+    bytes: &[u8],
+) -> Result<(), Error> {
     let mut file = file;
     let written = write_down(&mut file, bytes);
     drop(file);
-    match written {
-        Ok(()) => give_name(rt, part, name),
-        Err(error) => {
-            fail(rt, name, &error);
-            remove(rt, part);
-            false
-        }
-    }
+    written?;
+    rename(rt, part, name)
+}
+
+// Writes a file that is made and gives it its name, or says why it cannot and removes it.
+fn finish<R: System>(
+    rt: &R,
+    file: R::File,
+    part: &[u8],
+    name: &[u8],
+    bytes: &[u8],
+) -> Result<(), Said> {
+    fill(rt, file, part, name, bytes).map_err(|error| {
+        let said = fail(rt, name, &error);
+        remove(rt, part);
+        said
+    })
 }
 
 // Writes the file of a name whole, or says why it cannot and leaves the name as it was.
-pub fn save<R: System>(rt: &R, name: &[u8], bytes: &[u8]) -> bool {
+pub fn save<R: System>(rt: &R, name: &[u8], bytes: &[u8]) -> Result<(), Said> {
     if NAME < name.len() {
-        say_long(rt, name);
-        return false;
+        return Err(say_long(rt, name));
     }
     let mut space = [0u8; NAME + PART];
     let n = part_name(rt, name, &mut space);
     let part = &space[..n];
-    match create(rt, part) {
-        Ok(file) => finish(rt, file, part, name, bytes),
-        Err(error) => {
-            say_unmade(rt, name, part, &error);
-            false
-        }
-    }
+    let file = create(rt, part).map_err(|error| say_unmade(rt, name, part, &error))?;
+    finish(rt, file, part, name, bytes)
 }

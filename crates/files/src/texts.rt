@@ -17,16 +17,15 @@ const BEHIND: &[u8] = b" (os error ";
 struct Text {
     room: [u8; ROOM],
     length: usize,
+    ghost within: { length ≤ 128 },
 }
 
 impl fmt::Write for Text {
     fn write_str(&mut self, s: &str) -> fmt::Result {
-        for byte in s.as_bytes() {
-            if self.length < ROOM {
-                self.room[self.length] = *byte;
-                self.length += 1;
-            }
-        }
+        let free = &mut self.room[self.length..];
+        let n = free.len().min(s.len());
+        free[..n].copy_from_slice(&s.as_bytes()[..n]);
+        self.length += n;
         Ok(())
     }
 }
@@ -35,12 +34,9 @@ impl fmt::Write for Text {
 fn end(text: &[u8]) -> usize
     ensures { IsPrefixLen result text.now }
 {
-    for i in 0..text.len() {
-        if text[i..].starts_with(BEHIND) {
-            return i;
-        }
-    }
-    text.len()
+    text.windows(BEHIND.len())
+        .position(|part| part == BEHIND)
+        .unwrap_or(text.len())
 }
 
 // Puts the text of an error at the start of a room, and tells how long it is.
@@ -53,6 +49,5 @@ pub fn put(error: &Error, room: &mut [u8; ROOM]) -> usize
     };
     let _ = write!(text, "{error}");
     *room = text.room;
-    let n = words::least(text.length, ROOM);
-    end(&room[..n])
+    end(&room[..text.length])
 }

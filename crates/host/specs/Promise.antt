@@ -1,46 +1,35 @@
 -- What the host's functions promise.
-use Rattle.std.specs.Prelude.{ℕ, ◌≡◌, Bool, true, List, [], ◌∷◌, ◌++◌, length, drop}
+use Rattle.std.specs.Prelude.{ℕ, ◌≡◌, Bool, true, List, [], ◌∷◌, ◌++◌, length, drop, Result, Ok, Err, ⊤, IsOkAnd}
 use Rattle.command.specs.Says.{ack_byte}
 use Rattle.host.specs.Ranges.{carries, first_write, first_read, only_erase}
-use Rattle.host.specs.Refusals.{refusal_no, range_refusal, write_refusal}
+use Rattle.host.specs.Refusals.{range_refusal, write_refusal}
 use Rattle.host.specs.declared.Made.{Made}
 use Rattle.host.specs.declared.Refusal.{Refusal}
-use Rattle.host.specs.declared.Refusal.TheVariants.{Accepted, WrongImage, OutsideFlash, ShortRoom}
 
 -- ---- a command in a room
 
--- only what is accepted makes a command, and is for some bytes
-abbrev pub made_by : Refusal → List ℕ → List ℕ
-made_by Accepted command = command
-made_by WrongImage command = []
-made_by OutsideFlash command = []
-made_by ShortRoom command = []
+-- a command is put at the front of a room, which stays behind it, and its length is told
+pub record Puts (command before : List ℕ) (l : ℕ) (after : List ℕ) : Type 0 where
+  pub count : l ≡ length command
+  pub room : after ≡ command ++ drop (length command) before
 
-abbrev pub carried_by : Refusal → ℕ → ℕ
-carried_by Accepted n = n
-carried_by WrongImage n = 0
-carried_by OutsideFlash n = 0
-carried_by ShortRoom n = 0
-
--- the number of the refusal, the command at the front of the room, its length, and how many bytes of the range it is for; the room behind it stays
-pub record Tells (why : Refusal) (command : List ℕ) (n : ℕ) (before : List ℕ) (r : Made) (after : List ℕ) : Type 0 where
-  pub number : r.number ≡ refusal_no why
-  pub count : r.length ≡ length (made_by why command)
-  pub carried : r.carried ≡ carried_by why n
-  pub room : after ≡ made_by why command ++ drop (length (made_by why command)) before
+-- what is accepted puts a command, and tells for how many bytes of the range it is; a refusal is told, and the room stays
+abbrev pub Tells : Result ⊤ Refusal → List ℕ → ℕ → List ℕ → Result Made Refusal → List ℕ → Type 0
+Tells (Ok _) command n before r after = IsOkAnd r (λ (m : Made). (m.carried ≡ n) × Puts command before m.length after)
+Tells (Err e) command n before r after = (r ≡ Err e) × (after ≡ before)
 
 -- the first write command of a range of an image
-abbrev pub MakesWrite : List ℕ → ℕ → ℕ → List ℕ → Made → List ℕ → Type 0
+abbrev pub MakesWrite : List ℕ → ℕ → ℕ → List ℕ → Result Made Refusal → List ℕ → Type 0
 MakesWrite image offset count before r after =
     Tells (write_refusal (length image) offset count (length before)) (first_write image offset count) (carries count) before r after
 
 -- the first read command of a range
-abbrev pub MakesRead : ℕ → ℕ → List ℕ → Made → List ℕ → Type 0
+abbrev pub MakesRead : ℕ → ℕ → List ℕ → Result Made Refusal → List ℕ → Type 0
 MakesRead offset count before r after =
     Tells (range_refusal offset count (length before)) (first_read offset count) (carries count) before r after
 
 -- the erase command of a range, which is for all of it
-abbrev pub MakesErase : ℕ → ℕ → List ℕ → Made → List ℕ → Type 0
+abbrev pub MakesErase : ℕ → ℕ → List ℕ → Result Made Refusal → List ℕ → Type 0
 MakesErase offset count before r after =
     Tells (range_refusal offset count (length before)) (only_erase offset count) count before r after
 

@@ -4,19 +4,19 @@ use Rattle.words.specs.Hex.{hex}
 use Rattle.board.specs.Quantities.{sector}
 use Rattle.host.specs.Commands.{write_command, read_command, erase_command}
 use Rattle.host.specs.Ranges.{flash_address, writes_of, reads_of, erases_of}
-use Rattle.host.specs.Refusals.{refusal_no, write_refusal, range_refusal}
+use Rattle.host.specs.Refusals.{tested_no, write_refusal, range_refusal}
 use Rattle.host.specs.Promise.{done_reply, erased_reply, read_reply}
 
 -- the lengths of the write commands for so many bytes from offset 300 on
 abbrev pub lengths : ℕ → List ℕ
 lengths count = map length (writes_of (replicate 1000 0x5A) 300 count)
 
--- the number of the refusal of a write, and of a read or an erase
+-- the number of what is tested of a write, and of a read or an erase
 abbrev pub write_no : ℕ → ℕ → ℕ → ℕ → ℕ
-write_no image offset count room = refusal_no (write_refusal image offset count room)
+write_no image offset count room = tested_no (write_refusal image offset count room)
 
 abbrev pub range_no : ℕ → ℕ → ℕ → ℕ
-range_no offset count room = refusal_no (range_refusal offset count room)
+range_no offset count room = tested_no (range_refusal offset count room)
 
 pub record Rulings : Type 0 where
   -- the commands of the talk

@@ -17,19 +17,17 @@ pub const HEAD: usize = uart::COMPLEMENTED_BYTE + uart::CHECKED_ADDRESS + uart::
 // The room that must be lent for a command.
 pub const ROOM: usize = HEAD + LARGEST + 1;
 
-// Why no command is made, and that it is not so.
-#[derive(Clone, Copy)]
+// Why no command is made, by the number of each.
+#[derive(Clone, Copy, Debug, PartialEq, Eq)]
 pub enum Refusal {
-    Accepted,
-    WrongImage,
+    WrongImage = 1,
     OutsideFlash,
     ShortRoom,
 }
 
-// What is told of a command: the refusal's number, its length, and how many bytes of the range it is for.
-#[derive(Clone, Copy)]
+// What is told of a command: its length, and how many bytes of the range it is for; both are 0 of an empty range.
+#[derive(Clone, Copy, Debug, PartialEq, Eq, Default)]
 pub struct Made {
-    pub number: u8,
     pub length: usize,
     pub carried: usize,
 }
@@ -39,11 +37,6 @@ impl Refusal {
     pub fn number(self) -> u8
         ensures { result ≡ refusal_no self }
     {
-        match self {
-            Refusal::Accepted => 0,
-            Refusal::WrongImage => 1,
-            Refusal::OutsideFlash => 2,
-            Refusal::ShortRoom => 3,
-        }
+        self as u8
     }
 }

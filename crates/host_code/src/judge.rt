@@ -7,14 +7,12 @@ use reply::ACK;
 pub fn done(reply: &[u8]) -> bool
     ensures { Judges done_reply reply.now result }
 {
-    let right = [ACK, ACK, ACK];
-    check::same(reply, &right)
+    reply == [ACK, ACK, ACK].as_slice()
 }
 
 // Whether a reply says that an erase is done.
 pub fn erased(reply: &[u8]) -> bool
     ensures { Judges erased_reply reply.now result }
 {
-    let right = [ACK, ACK];
-    check::same(reply, &right)
+    reply == [ACK, ACK].as_slice()
 }

@@ -6,8 +6,9 @@ ghost use Rattle.board.specs.Quantities.{largest_count, sector, sectors_from};
 ghost use Rattle.host.specs.Commands.{numbers_of};
 ghost use Rattle.host.specs.Ranges.{write_of, read_of, erase_of};
 ghost use Rattle.host.specs.Refusals.{command_room};
+ghost use Rattle.host.specs.Promise.{Puts};
 
-use crate::parts::{head, two};
+use crate::parts::head;
 use board::Sector;
 use command::code;
 use host::HEAD;
@@ -21,15 +22,15 @@ pub fn put_write(image: &[u8], offset: usize, n: usize, room: &mut [u8]) -> usiz
     requires some { (0 < n) × (n ≤ largest_count) }
     requires inside { (offset + n ≤ flash.bytes) × (length image.now ≡ flash.bytes) }
     requires room { command_room ≤ length room.old }
-    ensures count { result ≡ length (write_of image.now offset n) }
-    ensures made { room.new ≡ put room.old 0 (write_of image.now offset n) }
+    ensures { Puts (write_of image.now offset n) room.old result room.new }
 {
     let less = (n - 1) as u8;
     let head = head(code::WRITE_MEMORY, offset, less);
-    let sum = [words::xor_from(less, &image[offset..], n)];
-    words::copy(room, 0, &head, 0, HEAD);
-    words::copy(room, HEAD, image, offset, n);
-    words::copy(room, HEAD + n, &sum, 0, 1);
+    let data = &image[offset..offset + n];
+    let sum = words::xor(less, data);
+    words::lay(room, 0, &head);
+    words::lay(room, HEAD, data);
+    words::lay(room, HEAD + n, &[sum]);
     HEAD + n + 1
 }
 
@@ -38,33 +39,26 @@ pub fn put_read(offset: usize, n: usize, room: &mut [u8]) -> usize
     requires some { (0 < n) × (n ≤ largest_count) }
     requires inside { offset + n ≤ flash.bytes }
     requires room { command_room ≤ length room.old }
-    ensures count { result ≡ length (read_of offset n) }
-    ensures made { room.new ≡ put room.old 0 (read_of offset n) }
+    ensures { Puts (read_of offset n) room.old result room.new }
 {
     let less = (n - 1) as u8;
     let head = head(code::READ_MEMORY, offset, less);
     let complement = [!less];
-    words::copy(room, 0, &head, 0, HEAD);
-    words::copy(room, HEAD, &complement, 0, 1);
+    words::lay(room, 0, &head);
+    words::lay(room, HEAD, &complement);
     HEAD + 1
 }
 
 // Puts the numbers of x sectors in order, from one on.
-fn put_numbers(first: usize, x: usize, room: &mut [u8])
+// Kept: for (place, k) in chunks_exact_mut(2).zip(first..first + x) leaves the bytes unknown, since a proof knows only the length of what was lent as chunks.
+fn put_numbers(first: u16, x: u16, room: &mut [u8])
     requires { (first + x ≤ sectors.count) × (command_room ≤ length room.old) }
     ensures { room.new ≡ put room.old 4 (numbers_of (sectors_from (sector first) x)) }
 {
-    let mut i = 0;
-    while i < x {
-        let number = two(first + i);
-        words::copy(
-            room,
-            NUMBERS_AT + Sector::NUMBER_BYTES * i,
-            &number,
-            0,
-            Sector::NUMBER_BYTES,
-        );
-        i += 1;
+    for i in 0..x {
+        let number = (first + i).to_be_bytes();
+        let at = NUMBERS_AT + Sector::NUMBER_BYTES * usize::from(i);
+        words::lay(room, at, &number);
     }
 }
 
@@ -73,17 +67,16 @@ pub fn put_erase(offset: usize, count: usize, room: &mut [u8]) -> usize
     requires some { 0 < count }
     requires inside { offset + count ≤ flash.bytes }
     requires room { command_room ≤ length room.old }
-    ensures count { result ≡ length (erase_of offset count) }
-    ensures made { room.new ≡ put room.old 0 (erase_of offset count) }
+    ensures { Puts (erase_of offset count) room.old result room.new }
 {
-    let first = Sector::at(offset).0 as usize;
-    let last = Sector::at(offset + count - 1).0 as usize;
-    let less = two(last - first);
+    let first = Sector::at(offset).0;
+    let last = Sector::at(offset + count - 1).0;
+    let less = (last - first).to_be_bytes();
     let command = [code::ERASE, !code::ERASE, less[0], less[1]];
-    words::copy(room, 0, &command, 0, NUMBERS_AT);
+    words::lay(room, 0, &command);
     put_numbers(first, last - first + 1, room);
-    let end = NUMBERS_AT + Sector::NUMBER_BYTES * (last - first + 1);
-    let sum = [words::xor_from(0, &room[COMPLEMENTED_BYTE..], end - COMPLEMENTED_BYTE)];
-    words::copy(room, end, &sum, 0, 1);
+    let end = NUMBERS_AT + Sector::NUMBER_BYTES * (usize::from(last - first) + 1);
+    let sum = words::xor(0, &room[COMPLEMENTED_BYTE..end]);
+    words::lay(room, end, &[sum]);
     end + 1
 }

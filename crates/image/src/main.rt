@@ -11,7 +11,9 @@ fn make<R: System>(rt: &R, file: &[u8], new: &[u8], shift: i16) {
     match rt.arg(4, &mut old) {
         Ok(length) => making::make(rt, file, new, shift, &old[..length]),
         Err(FillError::NotPresent) => making::make(rt, file, new, shift, b""),
-        Err(FillError::TooLong) => files::fail(rt, b"OLD", &files::error_of(FillError::TooLong)),
+        Err(FillError::TooLong) => {
+            files::fail(rt, b"OLD", &files::error_of(FillError::TooLong));
+        }
     }
 }
 
@@ -25,27 +27,16 @@ fn make_shifted<R: System>(rt: &R, file: &[u8], new: &[u8], number: &[u8]) {
 
 fn main(rt: HostRuntime) {
     let mut file = io::buffer();
-    let named = files::argument(&rt, 1, b"FILE", &mut file);
-    if named.failed {
-        return;
-    }
+    let Ok(named) = files::argument(&rt, 1, b"FILE", &mut file) else {
+        return; // why is said
+    };
     let mut new = io::buffer();
-    let made = files::argument(&rt, 2, b"NEW", &mut new);
-    if made.failed {
+    let Ok(made) = files::argument(&rt, 2, b"NEW", &mut new) else {
         return;
-    }
+    };
     let mut number = io::buffer();
-    let shift = files::argument(&rt, 3, b"SHIFT", &mut number);
-    if shift.failed {
+    let Ok(shift) = files::argument(&rt, 3, b"SHIFT", &mut number) else {
         return;
-    }
-    let named_length = named.length;
-    let made_length = made.length;
-    let shift_length = shift.length;
-    make_shifted(
-        &rt,
-        &file[..named_length],
-        &new[..made_length],
-        &number[..shift_length],
-    );
+    };
+    make_shifted(&rt, &file[..named], &new[..made], &number[..shift]);
 }

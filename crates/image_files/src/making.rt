@@ -1,10 +1,10 @@
 // Makes an image of an S-record file, over erased flash or an older image.
 ghost use Rattle.std.specs.Prelude.{◌≡◌, ◌≤◌, length};
-ghost use Rattle.io.specs.Counts.{IsPrefixLen};
+ghost use Rattle.std.specs.Io.{ReadsAtMost};
 ghost use Rattle.board.specs.Board.{flash};
 
 use board::Board;
-use files::Got;
+use files::Said;
 use files::system::System;
 
 // How many characters an S-record file has at most.
@@ -41,15 +41,12 @@ pub fn too_long<R: System>(rt: &R, name: &[u8]) {
 }
 
 // The image that is begun with: erased flash, which the room holds, or the file of a name.
-fn begin<R: System>(rt: &R, old: &[u8], room: &mut [u8]) -> Got
+fn begin<R: System>(rt: &R, old: &[u8], room: &mut [u8]) -> Result<usize, Said>
     requires { flash.bytes ≤ length room.old }
-    ensures { IsPrefixLen result.length room.new }
+    ensures { ReadsAtMost result room.new }
 {
     if old.len() == 0 {
-        return Got {
-            length: Board::FLASH_BYTES,
-            failed: false,
-        };
+        return Ok(Board::FLASH_BYTES);
     }
     files::read(rt, old, room)
 }
@@ -69,7 +66,7 @@ fn load_and_save<R: System>(
     let mut out = said_room();
     match image_says::load(name, text, shift, image, &mut out) {
         Ok(end) => {
-            if files::save(rt, new, image) {
+            if files::save(rt, new, image).is_ok() {
                 let _ = rt.write_all(&out[..end]);
             }
         }
@@ -80,21 +77,17 @@ fn load_and_save<R: System>(
 // Makes the image of an S-record file, from an old image where its name is not empty.
 pub fn make<R: System>(rt: &R, file: &[u8], new: &[u8], shift: i16, old: &[u8]) {
     let mut image = erased();
-    let begun = begin(rt, old, &mut image);
-    if begun.failed {
-        return;
-    }
+    let Ok(bytes) = begin(rt, old, &mut image) else {
+        return; // why is said
+    };
     let mut text = text_room();
-    let got = files::read(rt, file, &mut text);
-    if got.failed {
-        return;
-    }
-    let n = got.length;
+    let Ok(n) = files::read(rt, file, &mut text) else {
+        return; // why is said
+    };
     if TEXT < n {
         too_long(rt, file);
         return;
     }
-    let bytes = begun.length;
     if bytes == Board::FLASH_BYTES {
         load_and_save(rt, file, &text[..n], shift, &mut image[..bytes], new);
     } else {

@@ -21,7 +21,7 @@ fn print_row<R: System>(rt: &R, at: usize, row: &[u8]) {
     out[2] = desk_print::digit((at / 16 % 16) as u8);
     out[3] = desk_print::digit((at % 16) as u8);
     out[4] = b':';
-    let end = desk_print::bytes(row, row.len(), &mut out, 5);
+    let end = desk_print::bytes(row, &mut out, 5);
     let _ = rt.write_all(&out[..end]);
     let _ = rt.write_all(b"\n");
 }
@@ -58,16 +58,14 @@ fn load<R: System>(rt: &R, name: &[u8], text: &[u8], shift: i16, bytes: usize, i
 // The shift that argument i writes; none that it writes is 0.
 fn shift_at<R: System>(rt: &R, i: usize) -> i16 {
     let mut word = io::buffer();
-    let got = files::argument(rt, i, b"SHIFT", &mut word);
-    let n = got.length;
+    let n = files::argument(rt, i, b"SHIFT", &mut word).unwrap_or(0);
     arguments::shift(&word[..n]).unwrap_or(0)
 }
 
 // The number that argument i writes; none that it writes is 0.
 fn number_at<R: System>(rt: &R, i: usize) -> usize {
     let mut word = io::buffer();
-    let got = files::argument(rt, i, b"BYTES", &mut word);
-    let n = got.length;
+    let n = files::argument(rt, i, b"BYTES", &mut word).unwrap_or(0);
     arguments::number(&word[..n]).map_or(0, |number| number as usize)
 }
 
@@ -76,14 +74,11 @@ fn load_three<R: System>(rt: &R, i: usize, image: &mut [u8])
     requires { i + 2 < 2 ^ 64 }
 {
     let mut name = io::buffer();
-    let named = files::argument(rt, i, b"FILE", &mut name);
-    let k = named.length;
+    let k = files::argument(rt, i, b"FILE", &mut name).unwrap_or(0);
     let mut text = making::text_room();
-    let got = files::read(rt, &name[..k], &mut text);
-    if got.failed {
-        return;
-    }
-    let n = got.length;
+    let Ok(n) = files::read(rt, &name[..k], &mut text) else {
+        return; // why is said
+    };
     if making::TEXT < n {
         making::too_long(rt, &name[..k]);
         return;

@@ -7,16 +7,36 @@ pub mod held;
 pub mod room;
 pub mod turns;
 
-ghost use Rattle.std.specs.Prelude.{◌≡◌, true, false, eqb, length, take, ◌+◌};
+ghost use Rattle.std.specs.Prelude.{◌≡◌, ◌↔◌, true, false, length, ◌+◌, IsOk, OnOk, OnErr};
 ghost use Rattle.std.specs.Io.KnownBytes.{Appends};
-ghost use Rattle.io.specs.Counts.{IsPrefixLen};
 ghost use Rattle.memories.specs.Lent.{held, were, are};
 ghost use Rattle.memories.specs.Memories.{memories};
+ghost use Rattle.keeping.specs.declared.Untold.TheVariants.{Unkept};
 ghost use Rattle.keeping.specs.Kept.{memories_bytes, in_bytes, memories_in, named, Fits, Kept};
 
+use files::Said;
 use files::system::System;
 use room::{MEMORIES_BYTES, bring_back, holds, take_down};
 use std::io::Write;
+
+// Why something could not be told: the memories could not be kept, which is said, or what was to be answered could not be written.
+#[derive(Clone, Copy, Debug, PartialEq, Eq)]
+pub enum Untold {
+    Unkept,
+    Unwritten,
+}
+
+impl From<Said> for Untold {
+    ghost from_gives = { λ _ e. e ≡ Unkept };
+
+    fn from(_said: Said) -> Untold {
+        Untold::Unkept
+    }
+}
+
+// Bytes have another length than a board's memories.
+#[derive(Clone, Copy, Debug, PartialEq, Eq)]
+struct WrongLength;
 
 // Room for the bytes of a file, and a byte more, which tells that it is longer.
 fn file_room() -> [u8; MEMORIES_BYTES + 1]
@@ -26,7 +46,7 @@ fn file_room() -> [u8; MEMORIES_BYTES + 1]
 }
 
 // Says that a file has another length than a board's memories.
-fn say_length<R: System>(rt: &R, name: &[u8], length: usize) {
+fn say_length<R: System>(rt: &R, name: &[u8], length: usize) -> Said {
     rt.complain(name);
     rt.complain(b": it has ");
     if MEMORIES_BYTES < length {
@@ -38,21 +58,19 @@ fn say_length<R: System>(rt: &R, name: &[u8], length: usize) {
     rt.complain(b" bytes, and a board's memories are ");
     files::say_number(rt, MEMORIES_BYTES as u64);
     rt.complain(b"\n");
+    Said
 }
 
 // Writes bytes to the file of a name, or says why it cannot: only once they are written they are what was kept last.
-fn put_down<R: System>(rt: &R, name: &[u8], new: &[u8], kept: &mut [u8]) -> bool
+fn put_down<R: System>(rt: &R, name: &[u8], new: &[u8], kept: &mut [u8]) -> Result<(), Said>
     requires len { length new.now ≡ memories_bytes }
     requires kept_len { length kept.old ≡ memories_bytes }
-    ensures written { result ≡ true → kept.new ≡ new.now }
-    ensures unkept { result ≡ false → kept.new ≡ kept.old }
+    ensures written { OnOk result (kept.new ≡ new.now) }
+    ensures unkept { OnErr result (kept.new ≡ kept.old) }
 {
-    let saved = files::save(rt, name, new);
-    if saved {
-        words::copy(kept, 0, new, 0, MEMORIES_BYTES);
-        return true;
-    }
-    false
+    files::save(rt, name, new)?;
+    kept.copy_from_slice(new);
+    Ok(())
 }
 
 // Makes the file of a name of the memories, only where it is missing.
@@ -64,39 +82,38 @@ fn make<R: System>(
     sram: &[u8],
     usd: &[u8],
     kept: &mut [u8],
-) -> bool
+) -> Result<(), Said>
     requires missing_value { missing ≡ true }
     requires fits { Fits (memories flash.now sram.now usd.now) kept.old }
-    ensures made { result ≡ true → kept.new ≡ in_bytes (memories flash.now sram.now usd.now) }
-    ensures unkept { result ≡ false → kept.new ≡ kept.old }
+    ensures made { OnOk result (kept.new ≡ in_bytes (memories flash.now sram.now usd.now)) }
+    ensures unkept { OnErr result (kept.new ≡ kept.old) }
 {
     let first = take_down(flash, sram, usd);
     put_down(rt, name, &first, kept)
 }
 
-// Brings the memories back that the first n bytes are, and takes these down, if memories are so many bytes: it tells whether they are.
+// Brings the memories back that some bytes are, and takes these down, if memories are so many bytes.
 fn restore(
     bytes: &[u8],
-    n: usize,
     flash: &mut [u8],
     sram: &mut [u8],
     usd: &mut [u8],
     kept: &mut [u8],
-) -> bool
-    requires prefix_len { IsPrefixLen n bytes.now }
-    requires fits { Fits (held flash sram usd) kept.old }
-    ensures all { result ≡ eqb n memories_bytes }
-    ensures back { result ≡ true → are flash sram usd ≡ memories_in (take n bytes.now) }
-    ensures kept { result ≡ true → kept.new ≡ take n bytes.now }
-    ensures refused { result ≡ false → are flash sram usd ≡ were flash sram usd }
-    ensures unkept { result ≡ false → kept.new ≡ kept.old }
+) -> Result<(), WrongLength>
+    requires { Fits (held flash sram usd) kept.old }
+    ensures all { IsOk result ↔ (length bytes.now ≡ memories_bytes) }
+    ensures back { OnOk result (are flash sram usd ≡ memories_in bytes.now) }
+    ensures kept { OnOk result (kept.new ≡ bytes.now) }
+    ensures taken { OnOk result (kept.new ≡ in_bytes (are flash sram usd)) }
+    ensures refused { OnErr result (are flash sram usd ≡ were flash sram usd) }
+    ensures unkept { OnErr result (kept.new ≡ kept.old) }
 {
-    if n != MEMORIES_BYTES {
-        return false;
+    if bytes.len() != MEMORIES_BYTES {
+        return Err(WrongLength);
     }
-    bring_back(&bytes[..n], flash, sram, usd);
-    words::copy(kept, 0, bytes, 0, n);
-    true
+    bring_back(bytes, flash, sram, usd);
+    kept.copy_from_slice(bytes);
+    Ok(())
 }
 
 // Brings the memories back that the file of a name holds, or says why it cannot.
@@ -107,28 +124,22 @@ fn go_on<R: System>(
     sram: &mut [u8],
     usd: &mut [u8],
     kept: &mut [u8],
-) -> bool
+) -> Result<(), Said>
     requires { Fits (held flash sram usd) kept.old }
-    ensures kept { result ≡ true → kept.new ≡ in_bytes (are flash sram usd) }
-    ensures refused { result ≡ false → are flash sram usd ≡ were flash sram usd }
-    ensures unkept { result ≡ false → kept.new ≡ kept.old }
+    ensures kept { OnOk result (kept.new ≡ in_bytes (are flash sram usd)) }
+    ensures refused { OnErr result (are flash sram usd ≡ were flash sram usd) }
+    ensures unkept { OnErr result (kept.new ≡ kept.old) }
 {
     let mut bytes = file_room();
-    let got = files::read(rt, name, &mut bytes);
-    if got.failed {
-        return false;
+    let n = files::read(rt, name, &mut bytes)?;
+    match restore(&bytes[..n], flash, sram, usd, kept) {
+        Ok(()) => Ok(()),
+        Err(WrongLength) => Err(say_length(rt, name, n)),
     }
-    let n = got.length;
-    let back = restore(&bytes, n, flash, sram, usd, kept);
-    if back {
-        return true;
-    }
-    say_length(rt, name, n);
-    false
 }
 
 // Begins with a board: without a name with the memories as they are lent; else with those that the file of that name holds, which is made of
-// the lent ones where it is missing. It tells whether the board may begin, and says why not.
+// the lent ones where it is missing. Where the board may not begin, it is said why not.
 pub fn begin<R: System>(
     rt: &R,
     name: &[u8],
@@ -136,14 +147,14 @@ pub fn begin<R: System>(
     sram: &mut [u8],
     usd: &mut [u8],
     kept: &mut [u8],
-) -> bool
+) -> Result<(), Said>
     requires { Fits (held flash sram usd) kept.old }
-    ensures unnamed { named name.now ≡ false → (result ≡ true) × (are flash sram usd ≡ were flash sram usd) }
-    ensures refused { result ≡ false → are flash sram usd ≡ were flash sram usd }
-    ensures kept { result ≡ true → Kept name.now (are flash sram usd) kept.new }
+    ensures unnamed { named name.now ≡ false → IsOk result × (are flash sram usd ≡ were flash sram usd) }
+    ensures refused { OnErr result (are flash sram usd ≡ were flash sram usd) }
+    ensures kept { OnOk result (Kept name.now (are flash sram usd) kept.new) }
 {
-    if name.len() == 0 {
-        return true; // with the lent memories
+    if name.is_empty() {
+        return Ok(()); // with the lent memories
     }
     let missing = files::is_missing(rt, name);
     if missing {
@@ -161,18 +172,18 @@ pub fn keep<R: System>(
     sram: &[u8],
     usd: &[u8],
     kept: &mut [u8],
-) -> bool
+) -> Result<(), Said>
     requires { Fits (memories flash.now sram.now usd.now) kept.old }
-    ensures kept { result ≡ true → Kept name.now (memories flash.now sram.now usd.now) kept.new }
-    ensures unkept { result ≡ false → kept.new ≡ kept.old }
-    ensures same { Kept name.now (memories flash.now sram.now usd.now) kept.old → result ≡ true }
+    ensures kept { OnOk result (Kept name.now (memories flash.now sram.now usd.now) kept.new) }
+    ensures unkept { OnErr result (kept.new ≡ kept.old) }
+    ensures same { Kept name.now (memories flash.now sram.now usd.now) kept.old → IsOk result }
 {
-    if name.len() == 0 {
-        return true;
+    if name.is_empty() {
+        return Ok(());
     }
     let same = holds(flash, sram, usd, kept);
     if same {
-        return true;
+        return Ok(());
     }
     let new = take_down(flash, sram, usd);
     put_down(rt, name, &new, kept)
@@ -187,20 +198,16 @@ fn answer<W: Write>(
     kept: &[u8],
     to: &mut W,
     text: &[u8],
-) -> bool
+) -> Result<(), Untold>
     requires { Kept name.now (memories flash.now sram.now usd.now) kept.now }
-    ensures { result ≡ true → Appends (W.contents to.old) (W.contents to.new) text.now }
+    ensures { OnOk result (Appends (W.contents to.old) (W.contents to.new) text.now) }
 {
-    match to.write_all(text) {
-        Ok(()) => true,
-        Err(_) => false,
-    }
+    to.write_all(text).map_err(|_| Untold::Unwritten)
 }
 
-// Keeps the memories and then writes what is to be answered, if all before it could be.
+// Keeps the memories and then writes what is to be answered.
 pub fn tell<R: System, W: Write>(
     rt: &R,
-    told: bool,
     name: &[u8],
     flash: &[u8],
     sram: &[u8],
@@ -208,19 +215,11 @@ pub fn tell<R: System, W: Write>(
     kept: &mut [u8],
     to: &mut W,
     text: &[u8],
-) -> bool
+) -> Result<(), Untold>
     requires { Fits (memories flash.now sram.now usd.now) kept.old }
-    ensures untold { told ≡ false → result ≡ false }
-    ensures kept { result ≡ true → Kept name.now (memories flash.now sram.now usd.now) kept.new }
-    ensures written { result ≡ true → Appends (W.contents to.old) (W.contents to.new) text.now }
+    ensures kept { OnOk result (Kept name.now (memories flash.now sram.now usd.now) kept.new) }
+    ensures written { OnOk result (Appends (W.contents to.old) (W.contents to.new) text.now) }
 {
-    if !told {
-        return false;
-    }
-    let held = keep(rt, name, flash, sram, usd, kept);
-    if held {
-        answer(name, flash, sram, usd, kept, to, text)
-    } else {
-        false
-    }
+    keep(rt, name, flash, sram, usd, kept)?;
+    answer(name, flash, sram, usd, kept, to, text)
 }

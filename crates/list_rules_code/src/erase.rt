@@ -1,12 +1,15 @@
 // Erase: what its selector asks for, and whether the listed sectors, or all of flash, may be erased.
-ghost use Rattle.std.specs.Prelude.{◌≡◌, ◌≤◌, T, length};
+ghost use Rattle.std.specs.Prelude.{◌≡◌, ◌≤◌, length, take};
+ghost use Rattle.std.specs.List.{list_all, list_any};
+ghost use Rattle.std.specs.Simd.{first_chunks};
+ghost use Rattle.words.specs.Bytes.{number};
 ghost use Rattle.words.specs.Lists.{any, all};
-ghost use Rattle.board.specs.Quantities.{is_sector, numbers_bytes, first_numbered};
+ghost use Rattle.board.specs.Quantities.{sector, is_sector, selector_bytes, numbers_bytes, first_numbered};
 ghost use Rattle.board.specs.View.{write_protected};
 ghost use Rattle.rules.specs.Rules.{selector_of, erase_verdict, erasing, erase_all_verdict};
 
 use board::{Board, LessOne, Sector, View};
-use command::{Decision, FixedReply, Next, Verdict, Why};
+use command::{Decision, FixedReply, Next, Why};
 use memories::Change;
 use rules::Selector;
 
@@ -19,6 +22,7 @@ pub const WHOLE_FLASH: u32 = 0xFFFF;
 pub const FIRST_BANK: u32 = 0xFFFE;
 
 // What two selector bytes of an erase ask for.
+#[tactic(auto, unfolding(rules::specs::Rules::selector_of))]
 pub fn selector_of(number: u16) -> Selector
     ensures { result ≡ selector_of number }
 {
@@ -35,59 +39,72 @@ pub fn selector_of(number: u16) -> Selector
     }
 }
 
+// The sector that a two-byte number names.
+fn numbered(bytes: &[u8; Sector::NUMBER_BYTES]) -> Sector
+    ensures { result ≡ sector (number bytes.now) }
+{
+    Sector(words::number2(bytes[0], bytes[1]))
+}
+
+// The first x two-byte numbers that are staged.
+fn numbers(staged: &[u8], x: usize) -> &[[u8; Sector::NUMBER_BYTES]]
+    requires { numbers_bytes x ≤ length staged.now }
+    ensures { result.now ≡ first_chunks selector_bytes x (take (numbers_bytes x) staged.now) }
+{
+    staged[..Sector::NUMBER_BYTES * x].as_chunks().0
+}
+
+// Whether some two-byte numbers are all those of sectors of the board.
+fn all_exist(numbers: &[[u8; Sector::NUMBER_BYTES]]) -> bool
+    ensures { result ≡ list_all (λ n. is_sector (sector (number n))) numbers.now }
+{
+    numbers.iter().all(|bytes| numbered(bytes).exists())
+}
+
+// Whether one of some two-byte numbers names a write-protected sector.
+fn any_protected(view: View, numbers: &[[u8; Sector::NUMBER_BYTES]]) -> bool
+    ensures { result ≡ list_any (λ n. write_protected view (sector (number n))) numbers.now }
+{
+    numbers
+        .iter()
+        .any(|bytes| view.write_protected(numbered(bytes)))
+}
+
 // Whether the x staged two-byte numbers are all sectors of the board.
 fn all_numbered(staged: &[u8], x: usize) -> bool
     requires { numbers_bytes x ≤ length staged.now }
     ensures { result ≡ all is_sector (first_numbered x staged.now) }
 {
-    let end = Sector::NUMBER_BYTES * x;
-    let mut j = 0;
-    while j < end {
-        let sector = Sector::numbered(staged, j);
-        let here = sector.exists();
-        if !here {
-            return false;
-        }
-        j += Sector::NUMBER_BYTES;
-    }
-    true
+    all_exist(numbers(staged, x))
 }
 
 // Whether one of the x staged two-byte numbers names a write-protected sector.
 fn any_numbered_protected(view: View, staged: &[u8], x: usize) -> bool
-    requires { (numbers_bytes x ≤ length staged.now) × T (all is_sector (first_numbered x staged.now)) }
+    requires { numbers_bytes x ≤ length staged.now }
     ensures { result ≡ any (write_protected view) (first_numbered x staged.now) }
 {
-    let end = Sector::NUMBER_BYTES * x;
-    let mut j = 0;
-    while j < end {
-        let sector = Sector::numbered(staged, j);
-        if view.write_protected(sector) {
-            return true;
-        }
-        j += Sector::NUMBER_BYTES;
-    }
-    false
+    any_protected(view, numbers(staged, x))
 }
 
 // Whether the x sectors whose numbers are staged may be erased.
-fn erase_verdict(view: View, staged: &[u8], x: usize) -> Verdict
+#[tactic(auto, unfolding(rules::specs::Rules::erase_verdict))]
+fn erase_verdict(view: View, staged: &[u8], x: usize) -> Result<(), Why>
     requires { numbers_bytes x ≤ length staged.now }
     ensures { result ≡ erase_verdict view (first_numbered x staged.now) }
 {
     let sectors = all_numbered(staged, x);
     if !sectors {
-        return Verdict::No(Why::BadSector);
+        return Err(Why::BadSector);
     }
     let forbidden = any_numbered_protected(view, staged, x);
     if forbidden {
-        Verdict::No(Why::WriteProtected)
-    } else {
-        Verdict::Fine
+        return Err(Why::WriteProtected);
     }
+    Ok(())
 }
 
 // An erase of the x sectors whose numbers are staged, or of none.
+#[tactic(auto, unfolding(rules::specs::Rules::erasing))]
 pub fn erase(view: View, staged: &[u8], x: usize) -> Decision
     requires { numbers_bytes x ≤ length staged.now }
     ensures { result ≡ erasing view staged.now x }
@@ -99,17 +116,17 @@ pub fn erase(view: View, staged: &[u8], x: usize) -> Decision
 }
 
 // Whether a special selector may erase all flash.
-pub fn erase_all_verdict(view: View, number: u32) -> Verdict
+#[tactic(auto, unfolding(rules::specs::Rules::erase_all_verdict))]
+pub fn erase_all_verdict(view: View, number: u32) -> Result<(), Why>
     ensures { result ≡ erase_all_verdict view number }
 {
     let all = (number == WHOLE_FLASH) | (number == FIRST_BANK);
     if !all {
-        return Verdict::No(Why::UnsupportedErase);
+        return Err(Why::UnsupportedErase);
     }
     let forbidden = view.any_write_protected(Sector(0), Board::SECTORS);
     if forbidden {
-        Verdict::No(Why::WriteProtected)
-    } else {
-        Verdict::Fine
+        return Err(Why::WriteProtected);
     }
+    Ok(())
 }

@@ -3,10 +3,13 @@
 
 pub mod held;
 
-ghost use Rattle.std.specs.Prelude.{◌≡◌};
+ghost use Rattle.std.specs.Prelude.{◌≡◌, T};
+ghost use Rattle.board.specs.View.{view_of};
+ghost use Rattle.memories.specs.Lent.{holds};
+ghost use Rattle.memories.specs.Memories.{proper};
 ghost use Rattle.memories.specs.Effects.{no_bytes};
 
-use board::Region;
+use board::{Board, Region, View};
 
 // How many staged bytes there are.
 pub const STAGED: usize = 257;
@@ -28,6 +31,33 @@ pub enum Change {
     Release,
     Lock,
     Unlock,
+}
+
+// The three memories that a call is lent.
+#[derive(Drop)]
+pub struct Lent<'a> {
+    pub flash: &'a mut [u8],
+    pub sram: &'a mut [u8],
+    pub usd: &'a mut [u8],
+}
+
+impl Lent<'_> {
+    // Whether the memories have their lengths.
+    pub fn lengths_right(&self) -> bool
+        ensures { result ≡ proper (holds self.now) }
+    {
+        (self.flash.len() == Board::FLASH_BYTES)
+            & (self.sram.len() == Board::SRAM_BYTES)
+            & (self.usd.len() == Board::USD_BYTES)
+    }
+
+    // What of them the board may look at.
+    pub fn view(&self) -> View
+        requires { T (proper (holds self.now)) }
+        ensures { result ≡ view_of self.now.usd.now }
+    {
+        View::of(self.usd)
+    }
 }
 
 // Staged bytes that are all 0.

@@ -7,13 +7,13 @@ ghost use Rattle.words.specs.Over.{put};
 ghost use Rattle.board.specs.Board.{extent_of, sectors};
 ghost use Rattle.board.specs.Quantities.{largest_count, start_of, is_sector, numbers_bytes, first_indexed, first_numbered};
 ghost use Rattle.board.specs.declared.Region.TheVariants.{Flash, Usd};
-ghost use Rattle.memories.specs.Lent.{held, were, are};
+ghost use Rattle.memories.specs.Lent.{holds, had, has, Same};
 ghost use Rattle.memories.specs.Memories.{proper};
 ghost use Rattle.memories.specs.Protection.{released, also_protected, only_protected, locked};
 ghost use Rattle.memories.specs.Effects.{blank, erased, written, effect, fits};
 
 use board::{Board, Region, Sector};
-use memories::{Change, ERASED, STAGED};
+use memories::{Change, ERASED, Lent, STAGED};
 
 // A wiped byte of SRAM.
 const WIPED: u8 = 0;
@@ -25,22 +25,15 @@ const RELEASED: u8 = 0xFF;
 const LOCKED: u8 = 0;
 
 // Writes x staged bytes into a region from an offset on.
-fn write(
-    flash: &mut [u8],
-    sram: &mut [u8],
-    usd: &mut [u8],
-    region: Region,
-    at: usize,
-    staged: &[u8; STAGED],
-    x: usize,
-)
-    requires { T (proper (held flash sram usd)) × (x ≤ largest_count) × (at + x ≤ (extent_of region).bytes) }
-    ensures { are flash sram usd ≡ written region at (take x staged.now) (were flash sram usd) }
+fn write(lent: &mut Lent<'_>, region: Region, at: usize, staged: &[u8; STAGED], x: usize)
+    requires { T (proper (holds lent.old)) × (x ≤ largest_count) × (at + x ≤ (extent_of region).bytes) }
+    ensures left { has lent ≡ written region at (take x staged.now) (had lent) }
+    ensures same { Same lent }
 {
     match region {
-        Region::Flash => words::join_by_and(flash, at, staged, x),
-        Region::Sram => words::copy(sram, at, staged, 0, x),
-        Region::Usd => words::copy(usd, at, staged, 0, x),
+        Region::Flash => words::join_by_and(lent.flash, at, staged, x),
+        Region::Sram => words::copy(lent.sram, at, staged, 0, x),
+        Region::Usd => words::copy(lent.usd, at, staged, 0, x),
     }
 }
 
@@ -58,11 +51,9 @@ fn erase_sectors(flash: &mut [u8], staged: &[u8], x: usize)
         × T (all is_sector (first_numbered x staged.now)) }
     ensures { flash.new ≡ erased flash.old (first_numbered x staged.now) }
 {
-    let end = Sector::NUMBER_BYTES * x;
-    let mut j = 0;
-    while j < end {
-        erase_sector(flash, Sector::numbered(staged, j));
-        j += Sector::NUMBER_BYTES;
+    let numbers = &staged[..Sector::NUMBER_BYTES * x];
+    for number in numbers.chunks_exact(Sector::NUMBER_BYTES) {
+        erase_sector(flash, Sector::numbered(number, 0));
     }
 }
 
@@ -98,23 +89,23 @@ fn protect_only(usd: &mut [u8], staged: &[u8], x: usize)
     ensures { usd.new ≡ only_protected usd.old (first_indexed x staged.now) }
 {
     release(usd);
-    let mut i = 0;
-    while i < x {
-        protect_also(usd, Sector::indexed(staged, i));
-        i += 1;
+    for index in &staged[..x] {
+        protect_also(usd, Sector(*index as u16));
     }
 }
 
 // Wipes flash and SRAM and turns protection off, if it is on.
-fn unlock(flash: &mut [u8], sram: &mut [u8], usd: &mut [u8])
-    requires { T (proper (held flash sram usd)) }
-    ensures { are flash sram usd ≡ effect Change.Unlock [] (were flash sram usd) }
+fn unlock(lent: &mut Lent<'_>)
+    requires { T (proper (holds lent.old)) }
+    ensures left { has lent ≡ effect Change.Unlock [] (had lent) }
+    ensures same { Same lent }
 {
-    let on = board::usd::protection_on(usd);
+    let view = lent.view();
+    let on = view.locked;
     if on {
-        fill_all(flash, ERASED);
-        fill_all(sram, WIPED);
-        usd[Board::PROTECTION] = Board::PROTECTION_OFF;
+        fill_all(lent.flash, ERASED);
+        fill_all(lent.sram, WIPED);
+        lent.usd[Board::PROTECTION] = Board::PROTECTION_OFF;
     }
 }
 
@@ -127,24 +118,19 @@ fn lock(usd: &mut [u8])
 }
 
 // Carries out a change that can be.
-pub fn carry_out(
-    change: Change,
-    staged: &[u8; STAGED],
-    flash: &mut [u8],
-    sram: &mut [u8],
-    usd: &mut [u8],
-)
-    requires { T (proper (held flash sram usd)) × T (fits change staged.now) }
-    ensures { are flash sram usd ≡ effect change staged.now (were flash sram usd) }
+pub fn carry_out(change: Change, staged: &[u8; STAGED], lent: &mut Lent<'_>)
+    requires { T (proper (holds lent.old)) × T (fits change staged.now) }
+    ensures left { has lent ≡ effect change staged.now (had lent) }
+    ensures same { Same lent }
 {
     match change {
         Change::Nothing => {}
-        Change::Write(region, at, x) => write(flash, sram, usd, region, at, staged, x),
-        Change::EraseAll => fill_all(flash, ERASED),
-        Change::EraseSectors(x) => erase_sectors(flash, staged, x),
-        Change::ProtectOnly(x) => protect_only(usd, staged, x),
-        Change::Release => release(usd),
-        Change::Lock => lock(usd),
-        Change::Unlock => unlock(flash, sram, usd),
+        Change::Write(region, at, x) => write(lent, region, at, staged, x),
+        Change::EraseAll => fill_all(lent.flash, ERASED),
+        Change::EraseSectors(x) => erase_sectors(lent.flash, staged, x),
+        Change::ProtectOnly(x) => protect_only(lent.usd, staged, x),
+        Change::Release => release(lent.usd),
+        Change::Lock => lock(lent.usd),
+        Change::Unlock => unlock(lent),
     }
 }

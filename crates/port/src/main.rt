@@ -7,16 +7,13 @@ use keeping::arguments;
 
 fn main(rt: HostRuntime) {
     let mut word = io::buffer();
-    let length = files::word(&rt, 1, &mut word);
-    let st = port_loop::asks_st(&word[..length]);
+    let st = match files::word(&rt, 1, &mut word) {
+        Some(length) => port_loop::asks_st(&word[..length]),
+        None => false,
+    };
     let mut name = io::buffer();
-    let asked = arguments::ask(&rt, st, &mut name);
-    let n = asked.length;
-    if asked.known {
-        let mut from = rt.stdin();
-        let mut to = rt.stdout();
-        port_loop::run(&rt, st, &name[..n], &mut from, &mut to);
-    } else {
-        rt.complain(b"port: it takes [--st] [--keep FILE]\n");
+    match arguments::ask(&rt, st, &mut name) {
+        Some(n) => port_loop::run(&rt, st, &name[..n], &mut rt.stdin(), &mut rt.stdout()),
+        None => rt.complain(b"port: it takes [--st] [--keep FILE]\n"),
     }
 }

@@ -1,9 +1,10 @@
 -- What is so between two reads, and what some bytes that were read have left.
-use Rattle.std.specs.Prelude.{ℕ, ◌*◌, ◌≤◌, ◌≡◌, Bool, ◌&&◌, ltb, length}
+use Rattle.std.specs.Prelude.{ℕ, ◌*◌, ◌≤◌, ◌≡◌, Bool, Result, IfOk, ltb, length}
 use mathlib.Core.List.{List, foldl}
 use Rattle.words.specs.Over.{put}
 use Rattle.memories.specs.Memories.{Memories}
 use Rattle.uart.specs.Conversation.{uart_room}
+use Rattle.keeping.specs.declared.Untold.{Untold}
 use Rattle.boot.specs.Calls.{State, powered}
 use Rattle.boot.specs.Slices.{after_bytes}
 use Rattle.port_loop.specs.Port.{said_all}
@@ -28,12 +29,17 @@ sitting p room = record { board = p; room = room }
 abbrev pub reading : Bool → Sitting → List ℕ → Sitting
 reading st s bytes = sitting (after_bytes bytes s.board) (put s.room 0 (said_all st bytes s.board))
 
--- what one read of some bytes has left; it goes on where there were any, and all that was to be kept and answered could be
-pub record Turns (st : Bool) (before after : Sitting) (told going : Bool) : Type 0 where
+-- what one read of some bytes has left; where all that was to be kept and answered could be, it goes on where there were any
+pub record Turns (st : Bool) (before after : Sitting) (going : Result Bool Untold) : Type 0 where
   pub bytes : List ℕ
   pub few : length bytes ≤ read_bytes
   pub left : after ≡ reading st before bytes
-  pub more : going ≡ (told && ltb 0 (length bytes))
+  pub more : IfOk going (λ more. more ≡ ltb 0 (length bytes))
+
+-- what read after read has left
+pub record HasHeard (st : Bool) (before after : Sitting) : Type 0 where
+  pub reads : List (List ℕ)
+  pub left : after ≡ foldl (reading st) before reads
 
 -- what read after read has left, of a board that began with these memories, just powered
 pub record LeftBy (st : Bool) (m : Memories) (lent : List ℕ) (after : Sitting) : Type 0 where

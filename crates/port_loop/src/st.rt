@@ -22,13 +22,6 @@ const PRODUCT_HIGH: u8 = 0x04;
 
 const PRODUCT_LOW: u8 = 0x12;
 
-// One less, where there is something.
-fn one_less(n: u8) -> u8
-    ensures { result ≡ n - 1 }
-{
-    if n == 0 { 0 } else { n - 1 }
-}
-
 // Stores a byte in a reply that is as long.
 fn store(reply: &mut [u8], at: usize, byte: u8)
     ensures { reply.new ≡ set reply.old at byte }
@@ -43,11 +36,12 @@ fn lessen(reply: &mut [u8])
     ensures { reply.new ≡ set reply.old count_at (get_or reply.old count_at 0 - 1) }
 {
     if COUNT_AT < reply.len() {
-        reply[COUNT_AT] = one_less(reply[COUNT_AT]);
+        reply[COUNT_AT] = reply[COUNT_AT].saturating_sub(1);
     }
 }
 
 // Turns what a command is answered into ST's dialect.
+#[tactic(auto, unfolding(crate::specs::St::in_st))]
 fn turn(command: u8, reply: &mut [u8])
     ensures { reply.new ≡ in_st command reply.old }
 {
@@ -70,6 +64,7 @@ fn is_waiting(session: Session) -> bool
 }
 
 // Turns a reply into ST's dialect, where that is spoken and the session to which it is given waited for a command.
+#[tactic(auto, unfolding(crate::specs::Port::spoken))]
 pub fn speak(st: bool, session: Session, reply: &mut [u8])
     ensures { reply.new ≡ spoken st session reply.old }
 {

@@ -15,7 +15,7 @@ fn run_file<R: System>(rt: &R, st: bool, name: &[u8]) {
 // Runs port on the file that an argument names, unless that asks for ST's dialect, and tells whether it is spoken from then on.
 fn follow<R: System>(rt: &R, i: usize, st: bool) -> bool {
     let mut argument = io::buffer();
-    let length = files::word(rt, i, &mut argument);
+    let length = files::word(rt, i, &mut argument).unwrap_or(0);
     let asks = port_loop::asks_st(&argument[..length]);
     if asks {
         return true;

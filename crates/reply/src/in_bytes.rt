@@ -1,7 +1,7 @@
 // Writes a reply as UART sends it.
 ghost use Rattle.std.specs.Prelude.{◌≤◌, T, length};
 ghost use Rattle.words.specs.Lists.{join};
-ghost use Rattle.memories.specs.Memories.{memories};
+ghost use Rattle.memories.specs.Lent.{holds};
 ghost use Rattle.memories.specs.Memories.{proper};
 ghost use Rattle.command.specs.Says.{says, sayable, Said};
 ghost use Rattle.reply.specs.Fixed.{Holds, Lists};
@@ -9,6 +9,7 @@ ghost use Rattle.uart.specs.Conversation.{uart_room, command_bytes};
 
 use crate::{ACK, Fixed};
 use command::Reply;
+use memories::Lent;
 
 // The bytes of the answer to 0x00, one less than on CAN.
 const LISTED: usize = crate::LONGEST - 1;
@@ -27,9 +28,9 @@ fn commands() -> Fixed
 }
 
 // Writes a reply that can be given, and tells its length.
-pub fn say(reply: Reply, flash: &[u8], sram: &[u8], usd: &[u8], buffer: &mut [u8]) -> usize
-    requires { T (proper (memories flash.now sram.now usd.now)) × T (sayable reply) × (uart_room ≤ length buffer.old) }
-    ensures { Said (join (says command_bytes reply (memories flash.now sram.now usd.now))) result buffer.old buffer.new }
+pub fn say(reply: Reply, lent: &Lent<'_>, buffer: &mut [u8]) -> usize
+    requires { T (proper (holds lent.now)) × T (sayable reply) × (uart_room ≤ length buffer.old) }
+    ensures { Said (join (says command_bytes reply (holds lent.now))) result buffer.old buffer.new }
 {
-    crate::say(commands(), reply, flash, sram, usd, buffer)
+    crate::say(commands(), reply, lent, buffer)
 }

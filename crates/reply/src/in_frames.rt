@@ -1,6 +1,6 @@
 // Writes a reply as CAN sends it.
 ghost use Rattle.std.specs.Prelude.{◌≡◌, ◌≤◌, ◌<◌, T, length};
-ghost use Rattle.memories.specs.Memories.{memories};
+ghost use Rattle.memories.specs.Lent.{holds};
 ghost use Rattle.memories.specs.Memories.{proper};
 ghost use Rattle.command.specs.Says.{says, sayable, Said};
 ghost use Rattle.reply.specs.Fixed.{Holds, Lists};
@@ -11,6 +11,7 @@ ghost use Rattle.reply.specs.Pieces.{piece_of};
 use crate::{ACK, Fixed};
 use command::{Reply, code};
 use frames::{BYTES, CLASSIC, put};
+use memories::Lent;
 
 // n - 1, where n counts version and commands.
 const N_LESS_ONE: u8 = 0x0E;
@@ -49,11 +50,11 @@ fn put_reply(id: u16, bytes: &[u8], piece: usize, buffer: &mut [u8]) -> usize
 }
 
 // Writes a reply that can be given in frames of an ID, and tells its length.
-pub fn say(reply: Reply, id: u16, flash: &[u8], sram: &[u8], usd: &[u8], buffer: &mut [u8]) -> usize
-    requires { T (proper (memories flash.now sram.now usd.now)) × T (sayable reply) × (can_room ≤ length buffer.old) }
-    ensures { Said (framed classic id (says command_bytes reply (memories flash.now sram.now usd.now))) result buffer.old buffer.new }
+pub fn say(reply: Reply, id: u16, lent: &Lent<'_>, buffer: &mut [u8]) -> usize
+    requires { T (proper (holds lent.now)) × T (sayable reply) × (can_room ≤ length buffer.old) }
+    ensures { Said (framed classic id (says command_bytes reply (holds lent.now))) result buffer.old buffer.new }
 {
     let mut bytes = [0u8; uart::ROOM];
-    let n = crate::say(commands(), reply, flash, sram, usd, &mut bytes);
+    let n = crate::say(commands(), reply, lent, &mut bytes);
     put_reply(id, &bytes[..n], piece_of(reply), buffer)
 }

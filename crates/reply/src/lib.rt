@@ -11,13 +11,14 @@ ghost use Rattle.words.specs.Over.{put};
 ghost use Rattle.board.specs.Board.{extent_of};
 ghost use Rattle.board.specs.Quantities.{largest_count};
 ghost use Rattle.word_crc.specs.Words.{word_crc};
-ghost use Rattle.memories.specs.Memories.{memories};
+ghost use Rattle.memories.specs.Lent.{holds};
 ghost use Rattle.memories.specs.Memories.{proper, bytes_of};
 ghost use Rattle.command.specs.Says.{reply_room, ack_byte, tells, says, sayable, fixed, Said};
 ghost use Rattle.reply.specs.Fixed.{fixed_room, listing, Holds, Lists};
 
 use board::{Board, Region};
 use command::{FixedReply, Reply, code};
+use memories::Lent;
 
 // A fixed reply: bytes, of which the first few are the reply, and how many these are.
 #[derive(Clone, Copy)]
@@ -138,22 +139,15 @@ fn say_crc(value: u32, buffer: &mut [u8]) -> usize
 }
 
 // Writes x bytes of a region behind ACK.
-fn say_data(
-    region: Region,
-    at: usize,
-    x: usize,
-    flash: &[u8],
-    sram: &[u8],
-    usd: &[u8],
-    buffer: &mut [u8],
-) -> usize
-    requires { T (proper (memories flash.now sram.now usd.now)) × (x ≤ largest_count) × (at + x ≤ (extent_of region).bytes) × (reply_room ≤ length buffer.old) }
-    ensures { (result ≡ x + 1) × (buffer.new ≡ put buffer.old 0 (ack_byte ∷ part at x (bytes_of region (memories flash.now sram.now usd.now)))) }
+fn say_data(region: Region, at: usize, x: usize, lent: &Lent<'_>, buffer: &mut [u8]) -> usize
+    requires { T (proper (holds lent.now)) × (x ≤ largest_count) × (at + x ≤ (extent_of region).bytes)
+        × (reply_room ≤ length buffer.old) }
+    ensures { (result ≡ x + 1) × (buffer.new ≡ put buffer.old 0 (ack_byte ∷ part at x (bytes_of region (holds lent.now)))) }
 {
     match region {
-        Region::Flash => say_bytes(flash, at, x, buffer),
-        Region::Sram => say_bytes(sram, at, x, buffer),
-        Region::Usd => say_bytes(usd, at, x, buffer),
+        Region::Flash => say_bytes(lent.flash, at, x, buffer),
+        Region::Sram => say_bytes(lent.sram, at, x, buffer),
+        Region::Usd => say_bytes(lent.usd, at, x, buffer),
     }
 }
 
@@ -206,21 +200,14 @@ fn say_sum(flash: &[u8], at: usize, n: usize, buffer: &mut [u8]) -> usize
 }
 
 // Writes the bytes of a reply that can be given, message behind message, and tells how many; what a carrier tells of its commands is given.
-pub fn say(
-    commands: Fixed,
-    reply: Reply,
-    flash: &[u8],
-    sram: &[u8],
-    usd: &[u8],
-    buffer: &mut [u8],
-) -> usize
-    requires { Holds commands × T (proper (memories flash.now sram.now usd.now)) × T (sayable reply) × (reply_room ≤ length buffer.old) }
-    ensures { ((list : List ℕ) → Lists commands list → Said (join (says list reply (memories flash.now sram.now usd.now))) result buffer.old buffer.new)
+pub fn say(commands: Fixed, reply: Reply, lent: &Lent<'_>, buffer: &mut [u8]) -> usize
+    requires { Holds commands × T (proper (holds lent.now)) × T (sayable reply) × (reply_room ≤ length buffer.old) }
+    ensures { ((list : List ℕ) → Lists commands list → Said (join (says list reply (holds lent.now))) result buffer.old buffer.new)
         × (result ≤ reply_room) × (T (fixed reply) → result ≤ fixed_room) }
 {
     match reply {
-        Reply::Data(region, at, x) => say_data(region, at, x, flash, sram, usd, buffer),
-        Reply::Crc(at, n) => say_sum(flash, at, n, buffer),
+        Reply::Data(region, at, x) => say_data(region, at, x, lent, buffer),
+        Reply::Crc(at, n) => say_sum(lent.flash, at, n, buffer),
         Reply::Fixed(told) => {
             let fixed = fixed_bytes(commands, told);
             let bytes = fixed.bytes;

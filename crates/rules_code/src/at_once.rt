@@ -1,6 +1,6 @@
 // Commands that are answered as soon as they are asked for.
 ghost use Rattle.std.specs.Prelude.{◌≡◌};
-ghost use Rattle.rules.specs.Rules.{telling, releasing, locking, unlocking, resetting};
+ghost use Rattle.rules.specs.Rules.{telling, altering, resetting};
 
 use command::{Decision, FixedReply, Next};
 use memories::Change;
@@ -12,25 +12,11 @@ pub fn tell(told: FixedReply) -> Decision
     command::answer(told, Next::GoIdle)
 }
 
-// 0x73 releases every sector, then reset.
-pub fn release() -> Decision
-    ensures { result ≡ releasing }
+// 0x73 releases every sector, 0x82 sets protection on, 0x92 sets protection off and wipes: the change is made, then reset.
+pub fn alter(change: Change) -> Decision
+    ensures { result ≡ altering change }
 {
-    command::alter(FixedReply::AckAck, Change::Release, Next::Reset)
-}
-
-// 0x82 sets protection on, then reset.
-pub fn lock() -> Decision
-    ensures { result ≡ locking }
-{
-    command::alter(FixedReply::AckAck, Change::Lock, Next::Reset)
-}
-
-// 0x92 sets protection off and wipes, then reset.
-pub fn unlock() -> Decision
-    ensures { result ≡ unlocking }
-{
-    command::alter(FixedReply::AckAck, Change::Unlock, Next::Reset)
+    command::alter(FixedReply::AckAck, change, Next::Reset)
 }
 
 // 0xD4 resets.

@@ -6,6 +6,7 @@ use board::Address;
 use command::{Decision, FixedReply, Next, Why};
 
 // A jump to an address in flash or SRAM.
+#[tactic(auto, unfolding(rules::specs::Rules::jumping))]
 pub fn jump(address: Address) -> Decision
     ensures { result ≡ jumping address }
 {

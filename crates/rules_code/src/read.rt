@@ -6,16 +6,18 @@ use board::{Address, Place};
 use command::{Decision, Next, Reply, Why};
 
 // A read of x bytes at their place.
-fn read_at(place: Place, x: usize) -> Decision
+#[tactic(auto, unfolding(rules::specs::Rules::read_at))]
+fn read_at(place: Option<Place>, x: usize) -> Decision
     ensures { result ≡ read_at place x }
 {
     match place {
-        Place::In(region, at) => command::show(Reply::Data(region, at, x), Next::GoIdle),
-        Place::Nowhere => command::nack(Why::BadRange),
+        Some(place) => command::show(Reply::Data(place.region, place.at, x), Next::GoIdle),
+        None => command::nack(Why::BadRange),
     }
 }
 
 // A read of x bytes from an address on.
+#[tactic(auto, unfolding(rules::specs::Rules::reading))]
 pub fn read(address: Address, x: usize) -> Decision
     ensures { result ≡ reading address x }
 {

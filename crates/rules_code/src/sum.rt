@@ -7,19 +7,23 @@ use board::{Address, Place, Region};
 use command::{Decision, Next, Reply, Why};
 
 // The checksum of n bytes at their place, which has to be in flash.
-fn sum_at(place: Place, n: usize) -> Decision
+#[tactic(auto, unfolding(rules::specs::Rules::sum_at))]
+fn sum_at(place: Option<Place>, n: usize) -> Decision
     ensures { result ≡ sum_at place n }
 {
     match place {
-        Place::In(region, at) => match region {
-            Region::Flash => command::show(Reply::Crc(at, n), Next::GoIdle),
-            _ => command::nack(Why::BadRange),
-        },
-        Place::Nowhere => command::nack(Why::BadRange),
+        Some(
+            Place {
+                region: Region::Flash,
+                at,
+            },
+        ) => command::show(Reply::Crc(at, n), Next::GoIdle),
+        _ => command::nack(Why::BadRange),
     }
 }
 
 // The checksum of x sectors from an address on.
+#[tactic(auto, unfolding(rules::specs::Rules::summing))]
 pub fn sum(address: Address, x: usize) -> Decision
     requires { x ≤ largest_long_count }
     ensures { result ≡ summing address x }

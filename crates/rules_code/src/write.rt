@@ -5,10 +5,10 @@ ghost use Rattle.board.specs.Board.{extent_of};
 ghost use Rattle.board.specs.Regions.{touched};
 ghost use Rattle.board.specs.View.{write_protected};
 ghost use Rattle.board.specs.declared.Region.TheVariants.{Flash, Usd};
-ghost use Rattle.rules.specs.Rules.{write_verdict_at, write_verdict, after_write, write_at, writing};
+ghost use Rattle.rules.specs.Rules.{flash_verdict, usd_verdict, write_verdict, after_write, write_at, writing};
 
 use board::{Address, Board, Place, Region, Sector, View};
-use command::{Decision, FixedReply, Next, Verdict, Why};
+use command::{Decision, FixedReply, Next, Why};
 use memories::Change;
 
 // Whether x bytes of flash from an offset on touch a write-protected sector.
@@ -22,48 +22,45 @@ fn touches_protected(view: View, at: usize, x: usize) -> bool
 }
 
 // Whether x bytes may be written into flash.
-fn flash_verdict(view: View, at: usize, x: usize) -> Verdict
+fn flash_verdict(view: View, at: usize, x: usize) -> Result<(), Why>
     requires { (0 < x) × (at + x ≤ (extent_of Flash).bytes) }
-    ensures { result ≡ write_verdict_at view (Place.In Flash at) x }
+    ensures { result ≡ flash_verdict view at x }
 {
     let forbidden = touches_protected(view, at, x);
     if forbidden {
-        Verdict::No(Why::WriteProtected)
-    } else {
-        Verdict::Fine
+        return Err(Why::WriteProtected);
     }
+    Ok(())
 }
 
 // Whether x bytes may be written into user system data: only the whole of it.
-fn usd_verdict(at: usize, x: usize) -> Verdict
-    ensures { (view : View) → result ≡ write_verdict_at view (Place.In Usd at) x }
+fn usd_verdict(at: usize, x: usize) -> Result<(), Why>
+    ensures { result ≡ usd_verdict at x }
 {
     let whole = (at == 0) & (x == Board::USD_BYTES);
-    if whole {
-        Verdict::Fine
-    } else {
-        Verdict::No(Why::BadRange)
+    if !whole {
+        return Err(Why::BadRange);
     }
+    Ok(())
 }
 
 // Whether x bytes may be written from an address on.
-pub fn write_verdict(view: View, address: Address, x: usize) -> Verdict
+#[tactic(auto, unfolding(rules::specs::Rules::write_verdict, rules::specs::Rules::write_verdict_at))]
+pub fn write_verdict(view: View, address: Address, x: usize) -> Result<(), Why>
     requires { 0 < x }
     ensures { result ≡ write_verdict view address x }
 {
     let known = board::range::known(address);
-    if known {
-        let place = board::range::place(address, x);
-        match place {
-            Place::In(region, at) => match region {
-                Region::Flash => flash_verdict(view, at, x),
-                Region::Sram => Verdict::Fine,
-                Region::Usd => usd_verdict(at, x),
-            },
-            Place::Nowhere => Verdict::No(Why::BadRange),
-        }
-    } else {
-        Verdict::No(Why::BadAddress)
+    if !known {
+        return Err(Why::BadAddress);
+    }
+    let Some(place) = board::range::place(address, x) else {
+        return Err(Why::BadRange);
+    };
+    match place.region {
+        Region::Flash => flash_verdict(view, place.at, x),
+        Region::Sram => Ok(()),
+        Region::Usd => usd_verdict(place.at, x),
     }
 }
 
@@ -72,27 +69,28 @@ fn after_write(region: Region) -> Next
     ensures { result ≡ after_write region }
 {
     match region {
-        Region::Flash => Next::GoIdle,
-        Region::Sram => Next::GoIdle,
+        Region::Flash | Region::Sram => Next::GoIdle,
         Region::Usd => Next::Reset,
     }
 }
 
 // A write of x staged bytes at their place.
-fn write_at(place: Place, x: usize) -> Decision
+#[tactic(auto, unfolding(rules::specs::Rules::write_at))]
+fn write_at(place: Option<Place>, x: usize) -> Decision
     ensures { result ≡ write_at place x }
 {
     match place {
-        Place::In(region, at) => command::alter(
+        Some(place) => command::alter(
             FixedReply::Ack,
-            Change::Write(region, at, x),
-            after_write(region),
+            Change::Write(place.region, place.at, x),
+            after_write(place.region),
         ),
-        Place::Nowhere => command::nack(Why::BadRange),
+        None => command::nack(Why::BadRange),
     }
 }
 
 // A write of x staged bytes from an address on, or a refusal.
+#[tactic(auto, unfolding(rules::specs::Rules::writing))]
 pub fn write(view: View, address: Address, x: usize) -> Decision
     requires { 0 < x }
     ensures { result ≡ writing view address x }

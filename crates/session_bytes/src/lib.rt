@@ -4,8 +4,7 @@
 ghost use Rattle.std.specs.Prelude.{◌≡◌, length};
 ghost use Rattle.words.specs.Lists.{part};
 ghost use Rattle.memories.specs.Effects.{staged_bytes};
-ghost use Rattle.boot.specs.Causes.{cause_no};
-ghost use Rattle.boot.specs.declared.Cause.TheVariants.{Accepted};
+ghost use Rattle.boot.specs.Causes.{accepted, cause_no};
 ghost use Rattle.session_bytes.specs.Sessions.{session_length, staged_place, session_bytes, held_in, no_session, session_in};
 ghost use Rattle.session_bytes.specs.Promise.{HandsOn};
 
@@ -98,7 +97,7 @@ pub fn write(session: Session, lent: &mut [u8])
 
 // Tells the number of a call, and hands its session on where it was accepted.
 pub fn hand_on(taken: Taken, session: &mut [u8]) -> u8
-    requires { taken.number ≡ cause_no Accepted → length session.old ≡ session_length }
+    requires { taken.number ≡ cause_no accepted → length session.old ≡ session_length }
     ensures { (result ≡ taken.number) × HandsOn taken session.old session.new }
 {
     let number = taken.number;

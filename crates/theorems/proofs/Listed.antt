@@ -5,7 +5,7 @@ use mathlib.Core.List.{List, [], ◌∷◌}
 use Prim.Native.Nat.{ℕ}
 use native.Mathlib.Omega.{arith}
 use lib.Dec.{T, T_not}
-use Rattle.std.specs.Prelude.{if◌then◌else◌}
+use Rattle.std.specs.Prelude.{if◌then◌else◌, Ok, Err}
 use Rattle.words.specs.Lists.{any, all}
 use Rattle.words.proofs.Tests.{holds_true, fails_false}
 use Rattle.board.specs.Quantities.{is_sector, first_indexed, first_numbered}
@@ -14,13 +14,11 @@ use Rattle.board.specs.declared.Sector.{Sector}
 use Rattle.board.specs.declared.View.{View}
 use Rattle.memories.specs.declared.Change.{Change}
 use Rattle.memories.specs.declared.Change.TheVariants.{EraseSectors, ProtectOnly}
-use Rattle.command.specs.Decision.{alter, judged}
+use Rattle.command.specs.Decision.{Verdict, fine, alter, judged}
 use Rattle.command.specs.Progress.{Progress, staged_with}
 use Rattle.command.specs.declared.Decision.{Decision}
 use Rattle.command.specs.declared.Next.{Next}
 use Rattle.command.specs.declared.FixedReply.TheVariants.{Ack}
-use Rattle.command.specs.declared.Verdict.{Verdict}
-use Rattle.command.specs.declared.Verdict.TheVariants.{Fine, No}
 use Rattle.command.specs.declared.Why.{Why}
 use Rattle.command.specs.declared.Why.TheVariants.{BadSector, WriteProtected}
 use Rattle.rules.specs.Rules.{erase_verdict, erasing, protect_verdict, protecting}
@@ -49,13 +47,13 @@ module _ (c : Change) (good : Bool) where
   silent {d} n = record { holds = λ h. absurd (T_not (acks d.reply) n h) }
 
   -- a change that a rule may forbid, where the rule lets only the good pass
-  judged_accepts : (n : Next) (v : Verdict) → (v ≡ Fine → T good) → Holds (Accepts c good) (judged v (alter Ack c n))
+  judged_accepts : (n : Next) (v : Verdict) → (v ≡ fine → T good) → Holds (Accepts c good) (judged v (alter Ack c n))
   unfolding judged
-  judged_accepts n Fine f = record { holds = λ h. (refl, f refl) }
-  judged_accepts n (No w) f = record { holds = λ h. absurd h }
+  judged_accepts n (Ok u) f = record { holds = λ h. (refl, f refl) }
+  judged_accepts n (Err w) f = record { holds = λ h. absurd h }
 
 -- a verdict that refuses is not fine
-no_fine : (w : Why) → No w ≡ Fine → ⊥
+no_fine : (w : Why) → Err w ≡ fine → ⊥
 no_fine w e = let z : ◌≡◌ {A = ℕ} 0 1 = cc in omega arith
 
 -- ---- indexes of 0x63
@@ -73,7 +71,7 @@ protecting_accepts staged x = judged_accepts (ProtectOnly x) good _ _ (by_test g
     good : Bool
     good = all is_sector (first_indexed x staged)
 
-    by_test : (t : Bool) → (if t then Fine else No BadSector) ≡ Fine → T t
+    by_test : (t : Bool) → (if t then fine else Err BadSector) ≡ fine → T t
     by_test true e = tt
     by_test false e = absurd (no_fine BadSector e)
 
@@ -124,7 +122,7 @@ erasing_accepts view staged x = judged_accepts (EraseSectors x) (erasable view k
     ks : List Sector
     ks = first_numbered x staged
 
-    by_tests : (t u : Bool) → (if not t then No BadSector else if u then No WriteProtected else Fine) ≡ Fine → T (t && not u)
+    by_tests : (t u : Bool) → (if not t then Err BadSector else if u then Err WriteProtected else fine) ≡ fine → T (t && not u)
     by_tests true true e = absurd (no_fine WriteProtected e)
     by_tests true false e = tt
     by_tests false u e = absurd (no_fine BadSector e)

@@ -4,7 +4,7 @@ use mathlib.Core.Bool.{Bool, true, false, not, ◌&&◌}
 use mathlib.Core.List.{List}
 use Prim.Native.Nat.{ℕ}
 use lib.Dec.{T, eqb}
-use Rattle.std.specs.Prelude.{if◌then◌else◌}
+use Rattle.std.specs.Prelude.{if◌then◌else◌, Option, Some, None}
 use Rattle.words.proofs.Tests.{both_left, both_right}
 use Rattle.board.specs.declared.Address.{Address}
 use Rattle.board.specs.declared.View.{View}
@@ -18,8 +18,6 @@ use Rattle.command.specs.declared.Command.{Command}
 use Rattle.command.specs.declared.Command.TheVariants.{GetCommands, GetVersion, GetDeviceId, ReadMemory, Jump, WriteMemory, Erase, ProgramProtect}
 use Rattle.command.specs.declared.Command.TheVariants.{ProgramUnprotect, AccessProtect, AccessUnprotect, FirmwareCrc, ResetDevice, Speed}
 use Rattle.command.specs.declared.Decision.{Decision}
-use Rattle.command.specs.declared.Lookup.{Lookup}
-use Rattle.command.specs.declared.Lookup.TheVariants.{Known, Unknown}
 use Rattle.command.specs.declared.Next.{Next}
 use Rattle.command.specs.declared.Next.TheVariants.{Stay, Reset, Gather, GoIdle, SetSpeed, Enter, EnterAt, Run}
 use Rattle.command.specs.declared.FixedReply.{FixedReply}
@@ -150,10 +148,10 @@ uart_obeyed FirmwareCrc h = told Uart tt
 uart_obeyed ResetDevice h = told Uart tt
 uart_obeyed Speed h = told Uart tt
 
-uart_commanded : (view : View) → T view.locked → (k : Lookup) → Holds (Discreet Uart) (UC.commanded view k)
+uart_commanded : (view : View) → T view.locked → (k : Option Command) → Holds (Discreet Uart) (UC.commanded view k)
 unfolding UC.commanded
-uart_commanded view l (Known k) = unless_locked (Discreet Uart) view k l (refusal Uart) (uart_obeyed k)
-uart_commanded view l Unknown = told Uart tt
+uart_commanded view l (Some k) = unless_locked (Discreet Uart) view k l (refusal Uart) (uart_obeyed k)
+uart_commanded view l None = told Uart tt
 
 uart_complete : (s : US.Step) → T (calm_on_uart s) → (e a : ℕ) (bytes : List ℕ) (view : View) → T view.locked
     → Holds (Discreet Uart) (UC.complete s e a bytes view)
@@ -199,11 +197,11 @@ can_obeyed view d FirmwareCrc h = summing_discreet Can _ _
 can_obeyed view d ResetDevice h = told Can tt
 can_obeyed view d Speed h = either (Discreet Can) _ (told Can tt) (refusal Can _)
 
-can_commanded : (view : View) (d : List ℕ) → T view.locked → (k : Lookup) → Holds (Discreet Can) (CC.commanded view d k)
+can_commanded : (view : View) (d : List ℕ) → T view.locked → (k : Option Command) → Holds (Discreet Can) (CC.commanded view d k)
 unfolding CC.commanded
-can_commanded view d l (Known k) =
+can_commanded view d l (Some k) =
     either (Discreet Can) _ (unless_locked (Discreet Can) view k l (refusal Can) (can_obeyed view d k)) (refusal Can _)
-can_commanded view d l Unknown = told Can tt
+can_commanded view d l None = told Can tt
 
 can_heard : (s : CS.Step) → T (calm_on_can s) → (p : Progress) (view : View) (f : Frame) → T view.locked
     → Holds (Discreet Can) (CC.heard s p view f)

@@ -11,7 +11,7 @@ use lib.Dec.{T, T_not, eqb, ltb, leb, ltb→lt, nltb→le, leb→le, eqb→eq, l
 use lib.ListN.{length, get_or, take}
 use lib.Seq.{take_all}
 use borrow.Author.Tests.{le-leb, lt-ltb, leb-true, ne_eqb}
-use Rattle.std.specs.Prelude.{if◌then◌else◌}
+use Rattle.std.specs.Prelude.{if◌then◌else◌, Option, Some, None}
 use Rattle.words.specs.Over.{put}
 use Rattle.words.proofs.Tests.{both_left, both_right, holds_true}
 use Rattle.board.specs.Quantities.{count_of, less_one}
@@ -28,8 +28,6 @@ use Rattle.command.specs.declared.Command.{Command}
 use Rattle.command.specs.declared.Command.TheVariants.{GetCommands, GetVersion, GetDeviceId, ReadMemory, Jump, WriteMemory, Erase, ProgramProtect}
 use Rattle.command.specs.declared.Command.TheVariants.{ProgramUnprotect, AccessProtect, AccessUnprotect, FirmwareCrc, ResetDevice, Speed}
 use Rattle.command.specs.declared.Decision.{Decision}
-use Rattle.command.specs.declared.Lookup.{Lookup}
-use Rattle.command.specs.declared.Lookup.TheVariants.{Known, Unknown}
 use Rattle.command.specs.declared.Next.{Next}
 use Rattle.command.specs.declared.Next.TheVariants.{Stay, Reset, Gather, GoIdle, SetSpeed, Enter, EnterAt, Run}
 use Rattle.command.specs.declared.Reply.{Reply}
@@ -184,10 +182,10 @@ obeyed_goes FirmwareCrc = record { holds = tt }
 obeyed_goes ResetDevice = record { holds = tt }
 obeyed_goes Speed = record { holds = tt }
 
-commanded_goes : (view : View) (k : Lookup) → Holds (Goes (behind US.Step.Idle) (up_to US.Step.Idle)) (UC.commanded view k)
+commanded_goes : (view : View) (k : Option Command) → Holds (Goes (behind US.Step.Idle) (up_to US.Step.Idle)) (UC.commanded view k)
 unfolding UC.commanded
-commanded_goes view (Known k) = unless_either (Goes (behind US.Step.Idle) (up_to US.Step.Idle)) view k (refusal (behind US.Step.Idle) (up_to US.Step.Idle)) (obeyed_goes k)
-commanded_goes view Unknown = refusal (behind US.Step.Idle) (up_to US.Step.Idle) _
+commanded_goes view (Some k) = unless_either (Goes (behind US.Step.Idle) (up_to US.Step.Idle)) view k (refusal (behind US.Step.Idle) (up_to US.Step.Idle)) (obeyed_goes k)
+commanded_goes view None = refusal (behind US.Step.Idle) (up_to US.Step.Idle) _
 
 -- a byte X - 1 announces at most 256 bytes and their checksum
 awaits_goes : (s : US.Step) (at : ℕ) → T (not (eqb (step_no s) 0)) → behind (step_of (step_no s)) ≡ 0 → T (ltb 0 at && eqb (before (step_of (step_no s))) at)
@@ -403,7 +401,7 @@ few room (b ∷ bs) p w h =
 
 -- a write of 256 bytes, by computing
 longest : T (goes_on UC.uart_room longest_write (run (Byte UC.uart_room 0x7F ∷ []) fresh_board))
-unfolding goes_on BK.run BK.call BK.perform BK.sent BK.decide BK.cause_for BC.cause_of BD.connected BD.decide_byte BS.after BS.sound UC.obeyed UC.commanded UC.addressed UC.kept_if UC.complete UC.heard S.says Q.unless_protected D.if◌gives◌else◌ E.effect W.view_of R.place_of
+unfolding goes_on BK.run BK.call BK.perform BK.sent BK.decide BK.cause_for BC.cause_of BD.connected BD.decide_byte BS.after BS.sound UC.obeyed UC.commanded UC.addressed UC.kept_if UC.complete UC.heard S.says Q.unless_protected D.if◌gives◌else◌ E.effect W.view_of R.regions R.place_of
 longest = tt
 
 pub no_longer_command : NoLongerCommand

@@ -6,27 +6,23 @@ use mathlib.Core.List.{List, [], ◌∷◌}
 use Prim.Native.Nat.{ℕ}
 use lib.Dec.{T, eqb, eqb→eq, eqb_refl}
 use lib.ListN.{get_or}
-use Rattle.std.specs.Prelude.{if◌then◌else◌}
+use Rattle.std.specs.Prelude.{if◌then◌else◌, Option, Some, None, Ok, Err}
 use Rattle.board.specs.declared.Address.{Address}
 use Rattle.board.specs.declared.Region.{Region}
 use Rattle.board.specs.declared.View.{View}
 use Rattle.memories.specs.declared.Change.TheVariants.{Write, EraseAll, EraseSectors, ProtectOnly}
 use Rattle.command.specs.Commands.{code, uart_commands, can_commands, look_up}
-use Rattle.command.specs.Decision.{if◌gives◌else◌, answer, alter, show, nack}
+use Rattle.command.specs.Decision.{Verdict, if◌gives◌else◌, answer, alter, show, nack}
 use Rattle.command.specs.Progress.{Progress, staged_with, short}
 use Rattle.command.specs.declared.Command.{Command}
 use Rattle.command.specs.declared.Command.TheVariants.{GetCommands, GetVersion, GetDeviceId, ReadMemory, Jump, WriteMemory, Erase, ProgramProtect}
 use Rattle.command.specs.declared.Command.TheVariants.{ProgramUnprotect, AccessProtect, AccessUnprotect, FirmwareCrc, ResetDevice, Speed}
 use Rattle.command.specs.declared.Decision.{Decision}
-use Rattle.command.specs.declared.Lookup.{Lookup}
-use Rattle.command.specs.declared.Lookup.TheVariants.{Known, Unknown}
 use Rattle.command.specs.declared.Next.{Next}
 use Rattle.command.specs.declared.Next.TheVariants.{GoIdle, Reset}
 use Rattle.command.specs.declared.Reply.TheVariants.{Data, Crc}
 use Rattle.command.specs.declared.FixedReply.{FixedReply}
 use Rattle.command.specs.declared.FixedReply.TheVariants.{Silence, Ack, AckAck, Nack, AckNack, Commands, Version, DeviceId}
-use Rattle.command.specs.declared.Verdict.{Verdict}
-use Rattle.command.specs.declared.Verdict.TheVariants.{Fine, No}
 use Rattle.command.specs.declared.Why.{Why}
 use Rattle.rules.specs.Rules.{after_write, writing, erasing, protecting, releasing, locking, unlocking, jumping}
 use Rattle.rules.specs.declared.Selector.{Selector}
@@ -110,12 +106,12 @@ OnInput P (Framed room l) s = T (on Can s) → OnCan P (C.step_of s.step) (frame
 -- ---- a command that is looked up
 
 module _ (P : Decision → Type 0) where
-  looked : (go : Lookup → Decision) (n : ℕ) → ((k : Command) → n ≡ code k → Holds P (go (Known k))) → Holds P (go Unknown) → (ks : List Command)
+  looked : (go : Option Command → Decision) (n : ℕ) → ((k : Command) → n ≡ code k → Holds P (go (Some k))) → Holds P (go None) → (ks : List Command)
       → Holds P (go (look_up ks n))
   looked go n known unknown [] = unknown
   looked go n known unknown (k ∷ ks) = by_test (eqb n (code k)) (eqb→eq n (code k)) (looked go n known unknown ks)
     where
-      by_test : (t : Bool) → (T t → n ≡ code k) → Holds P (go (look_up ks n)) → Holds P (go (if t then Known k else look_up ks n))
+      by_test : (t : Bool) → (T t → n ≡ code k) → Holds P (go (look_up ks n)) → Holds P (go (if t then Some k else look_up ks n))
       by_test true e h = known k (e tt)
       by_test false e h = h
 
@@ -210,8 +206,8 @@ module _ (P : Decision → Type 0) (b : Parts P) where
 
   can_special : (v : Verdict) → ((w : Why) → Holds P (answer (AckNack w) GoIdle)) → Holds P (CC.erased_or_not v)
   unfolding CC.erased_or_not
-  can_special Fine f = b.cleared_on_can
-  can_special (No w) f = f w
+  can_special (Ok u) f = b.cleared_on_can
+  can_special (Err w) f = f w
 
   can_selected : (view : View) (k : Selector) → ((w : Why) → Holds P (answer (AckNack w) GoIdle)) → Holds P (CC.selected view k)
   unfolding CC.selected

@@ -7,7 +7,7 @@ use Prim.Native.Nat.{ℕ, ◌-◌, ◌<◌}
 use native.Mathlib.Omega.{arith}
 use lib.Dec.{T, T_not, eqb, eqb→eq, lit<}
 use lib.ListN.{length, get_or, take}
-use Rattle.std.specs.Prelude.{if◌then◌else◌}
+use Rattle.std.specs.Prelude.{if◌then◌else◌, Some}
 use Rattle.words.specs.Bytes.{complement}
 use Rattle.words.specs.Over.{newer, put}
 use Rattle.words.proofs.Over.{length_over, over_within, over_before}
@@ -18,7 +18,6 @@ use Rattle.command.specs.Decision.{if◌gives◌else◌}
 use Rattle.command.specs.Progress.{Progress, staged_with, short, fitting}
 use Rattle.command.specs.declared.Command.TheVariants.{AccessUnprotect}
 use Rattle.command.specs.declared.Decision.{Decision}
-use Rattle.command.specs.declared.Lookup.TheVariants.{Known}
 use Rattle.command.specs.declared.Next.{Next}
 use Rattle.command.specs.declared.Next.TheVariants.{Stay, Reset, Gather, GoIdle, SetSpeed, Enter, EnterAt, Run}
 use Rattle.rules.specs.Rules.{unless_protected}
@@ -84,11 +83,11 @@ unhindered : (t : Bool) → T (t && false) → ⊥
 unhindered true h = h
 unhindered false h = h
 
-uart_obeys : (view : View) → Holds Opens (UC.commanded view (Known AccessUnprotect))
+uart_obeys : (view : View) → Holds Opens (UC.commanded view (Some AccessUnprotect))
 unfolding UC.commanded UC.obeyed unless_protected
 uart_obeys view = split Opens (view.locked && false) (λ h. absurd (unhindered view.locked h)) (λ h. record { holds = tt })
 
-can_obeys : (view : View) (d : List ℕ) → Holds Opens (CC.commanded view d (Known AccessUnprotect))
+can_obeys : (view : View) (d : List ℕ) → Holds Opens (CC.commanded view d (Some AccessUnprotect))
 unfolding CC.commanded CC.obeyed unless_protected
 can_obeys view d =
     split Opens true

@@ -16,5 +16,5 @@ use Rattle.boot.specs.Calls as BK
 use Rattle.theorems.specs.Talk.{board, ends, exchanges_of, WorkedTalk}
 
 pub worked_talk : WorkedTalk
-unfolding board exchanges_of ends BK.outcomes BK.run BK.call BK.perform BK.sent BK.decide BK.cause_for BC.cause_of BD.connected BD.decide_byte BD.decide_frame BS.after BS.sound CC.erased_or_not CC.selected CC.obeyed CC.commanded CC.gathering CC.unless_extra CC.heard CC.decided UC.obeyed UC.commanded UC.addressed UC.kept_if UC.selected UC.complete UC.heard S.says Q.unless_protected Q.read_at Q.reading Q.write_verdict_at Q.write_verdict Q.write_at Q.writing Q.selector_of Q.erase_verdict Q.erasing Q.erase_all_verdict Q.protect_verdict Q.protecting Q.jumping Q.sum_at Q.summing D.if◌gives◌else◌ D.judged E.written E.erased_all E.wiped E.effect P.released P.also_protected P.only_protected W.view_of W.write_protected R.place_of
+unfolding board exchanges_of ends BK.outcomes BK.run BK.call BK.perform BK.sent BK.decide BK.cause_for BC.cause_of BD.connected BD.decide_byte BD.decide_frame BS.after BS.sound CC.erased_or_not CC.selected CC.obeyed CC.commanded CC.gathering CC.unless_extra CC.heard CC.decided UC.obeyed UC.commanded UC.addressed UC.kept_if UC.selected UC.complete UC.heard S.says Q.unless_protected Q.read_at Q.reading Q.write_verdict_at Q.write_verdict Q.write_at Q.writing Q.selector_of Q.erase_verdict Q.erasing Q.erase_all_verdict Q.protect_verdict Q.protecting Q.jumping Q.sum_at Q.summing D.if◌gives◌else◌ D.judged E.written E.erased_all E.wiped E.effect P.released P.also_protected P.only_protected W.view_of W.write_protected R.regions R.place_of
 worked_talk = refl

@@ -7,7 +7,7 @@ use Prim.Native.Nat.{ℕ}
 use native.Mathlib.Omega.{arith}
 use lib.Dec.{T, T_not, eqb, eqb→eq}
 use lib.ListN.{take, drop}
-use Rattle.std.specs.Prelude.{if◌then◌else◌}
+use Rattle.std.specs.Prelude.{if◌then◌else◌, Some, Ok, Err}
 use Rattle.words.proofs.Tests.{both_left, both_right, holds_true}
 use Rattle.board.specs.declared.Address.{Address}
 use Rattle.board.specs.declared.View.{View}
@@ -19,7 +19,6 @@ use Rattle.command.specs.Says.{says}
 use Rattle.command.specs.Why.{no_reason, reason_of}
 use Rattle.command.specs.declared.Command.TheVariants.{FirmwareCrc}
 use Rattle.command.specs.declared.Decision.{Decision}
-use Rattle.command.specs.declared.Lookup.TheVariants.{Known}
 use Rattle.command.specs.declared.Next.{Next}
 use Rattle.command.specs.declared.Reply.{Reply}
 use Rattle.command.specs.declared.Reply.TheVariants.{Fixed, Data, Crc}
@@ -36,8 +35,8 @@ use Rattle.carriers.specs.declared.Carrier.TheVariants.{Uart, Can}
 use Rattle.boot.specs.Session.{on, sound, progress}
 use Rattle.boot.specs.Causes.{cause_no, accepts}
 use Rattle.boot.specs.Calls.{State, Input, Power, Byte, Framed, commands_of, view_in, cause_for, decide, sent, perform, refused, call, done}
-use Rattle.boot.specs.declared.Cause.{Cause}
-use Rattle.boot.specs.declared.Cause.TheVariants.{Accepted, WrongMemory, ShortReply, BadFrame, UnsoundSession, BoardRunning}
+use Rattle.boot.specs.Causes.{Judged}
+use Rattle.boot.specs.declared.Cause.TheVariants.{WrongMemory, ShortReply, BadFrame, UnsoundSession, BoardRunning}
 use Rattle.boot.specs.declared.Session.{Session}
 use Rattle.command.proofs.First.{is_some}
 use Rattle.command.proofs.Holds.{Holds, either, split}
@@ -55,14 +54,14 @@ pub number_accepts : (i : Input) (p : State) → eqb (cause_no (call i p).cause)
 unfolding call perform
 number_accepts i p = by_cause (cause_for i p)
   where
-    by_cause : (c : Cause)
+    by_cause : (c : Judged)
         → eqb (cause_no (if accepts c then perform i p (decide i p.session (view_in p)) else refused c p).cause) 0 ≡ accepts c
-    by_cause Accepted = refl
-    by_cause WrongMemory = refl
-    by_cause ShortReply = refl
-    by_cause BadFrame = refl
-    by_cause UnsoundSession = refl
-    by_cause BoardRunning = refl
+    by_cause (Ok u) = refl
+    by_cause (Err WrongMemory) = refl
+    by_cause (Err ShortReply) = refl
+    by_cause (Err BadFrame) = refl
+    by_cause (Err UnsoundSession) = refl
+    by_cause (Err BoardRunning) = refl
 
 -- a refused call replies nothing, an accepted one what it decided
 pub replied : (i : Input) (p : State) → (call i p).reply ≡ sent_with p.memories i p
@@ -173,7 +172,7 @@ unfolding UC.heard UC.complete
 uart_sums p view b l =
     split Sums (short p (b ∷ [])) (λ h. absurd (T_not (short p (b ∷ [])) l h)) (λ h. either Sums _ (summing_sums _ _) (refusal _))
 
-can_known : (view : View) (d : List ℕ) → Holds Sums (CC.commanded view d (Known FirmwareCrc))
+can_known : (view : View) (d : List ℕ) → Holds Sums (CC.commanded view d (Some FirmwareCrc))
 unfolding CC.commanded CC.obeyed
 can_known view d = either Sums _ (unless_either Sums view FirmwareCrc refusal (summing_sums _ _)) (refusal _)
 

@@ -8,14 +8,13 @@ use native.Mathlib.Omega.{arith}
 use lib.Dec.{T, T_not, not_T, leb, ltb, leb→le, ltb→lt}
 use lib.ListN.{length, get_or, take, length-take}
 use borrow.Author.Tests.{le-leb, lt-ltb}
-use Rattle.std.specs.Prelude.{if◌then◌else◌}
+use Rattle.std.specs.Prelude.{if◌then◌else◌, Option, Some, None}
 use Rattle.words.specs.Over.{within}
 use Rattle.words.proofs.Tests.{both_left, both_right, holds_true, fails_false}
 use Rattle.board.specs.Board as B
-use Rattle.board.specs.Regions.{place_of}
+use Rattle.board.specs.Regions.{inside, place_of}
 use Rattle.board.specs.declared.Address.{Address}
 use Rattle.board.specs.declared.Place.{Place}
-use Rattle.board.specs.declared.Place.TheVariants.{In, Nowhere}
 use Rattle.board.specs.declared.Region.{Region}
 use Rattle.board.specs.declared.Region.TheVariants.{Flash, Sram, Usd}
 use Rattle.board.specs.declared.View.{View}
@@ -74,14 +73,14 @@ beyond Usd at new m Sram i h f = refl
 beyond Usd at new m Usd i h f = written_at Usd at new m i h ∙ rw (f refl)
 
 -- a write at an address changes no byte but those it names
-write_keeps : (m : Memories) → T (proper m) → (from count : ℕ) (r : Region) (at : ℕ) → place_of (B.address from) count ≡ In r at
+write_keeps : (m : Memories) → T (proper m) → (from count : ℕ) (r : Region) (at : ℕ) → place_of (B.address from) count ≡ inside r at
     → (staged : List ℕ) (a : Address) → T (not (within from count a.0))
     → byte_at a (written r at (take count staged) m) ≡ byte_at a m
 write_keeps m t from count r at e staged a n = by_place (place_of a 1) refl
   where
-    by_place : (q : Place) → place_of a 1 ≡ q → byte_in q (written r at (take count staged) m) ≡ byte_in q m
-    by_place Nowhere g = refl
-    by_place (In q i) g = beyond r at (take count staged) m q i short apart
+    by_region : (q : Region) (i : ℕ) → place_of a 1 ≡ inside q i
+        → byte_in (inside q i) (written r at (take count staged) m) ≡ byte_in (inside q i) m
+    by_region q i g = beyond r at (take count staged) m q i short apart
       where
         here : Lies a 1 q i
         here = lies a 1 q i g
@@ -98,12 +97,16 @@ write_keeps m t from count r at e staged a n = by_place (place_of a 1) refl
             outside (B.extent_of r).first.0 from count at i a.0 (length (take count staged)) there.from near.from there.offset
             near.offset (rw length-take (omega arith)) n
 
+    by_place : (q : Option Place) → place_of a 1 ≡ q → byte_in q (written r at (take count staged) m) ≡ byte_in q m
+    by_place None g = refl
+    by_place (Some p) g = by_region p.region p.at g
+
 -- ---- what the data step decides
 
 -- a change is none, or a write of x bytes at a place
-abbrev WritesAt : Place → ℕ → Change → Type 0
+abbrev WritesAt : Option Place → ℕ → Change → Type 0
 WritesAt q x Nothing = Unit {0}
-WritesAt q x (Write r at n) = (n ≡ x) × (q ≡ In r at)
+WritesAt q x (Write r at n) = (n ≡ x) × (q ≡ inside r at)
 WritesAt q x EraseAll = ⊥
 WritesAt q x (EraseSectors n) = ⊥
 WritesAt q x (ProtectOnly n) = ⊥
@@ -115,10 +118,10 @@ WritesAt q x Unlock = ⊥
 abbrev Only : ℕ → ℕ → Decision → Type 0
 Only a x d = WritesAt (place_of (B.address a) x) x d.change
 
-write_only : (q : Place) (x : ℕ) → Holds (λ d. WritesAt q x d.change) (write_at q x)
+write_only : (q : Option Place) (x : ℕ) → Holds (λ d. WritesAt q x d.change) (write_at q x)
 unfolding write_at
-write_only (In r at) x = record { holds = (refl, refl) }
-write_only Nowhere x = record { holds = tt }
+write_only (Some p) x = record { holds = (refl, refl) }
+write_only None x = record { holds = tt }
 
 writing_only : (view : View) (a x : ℕ) → Holds (Only a x) (writing view (B.address a) x)
 unfolding writing

@@ -1,15 +1,14 @@
 -- The club's failures, each as a statement that a mentor can read.
-use Rattle.std.specs.Prelude.{ℕ, ◌<◌, ◌≡◌, Bool, true, false, not, ◌&&◌, ◌||◌, List, [], ◌∷◌, length, get_or, take, drop, T, eqb}
+use Rattle.std.specs.Prelude.{ℕ, ◌<◌, ◌≡◌, Bool, true, false, not, ◌&&◌, ◌||◌, List, [], ◌∷◌, length, get_or, take, drop, T, eqb, Option, Some, None}
 use Rattle.words.specs.Lists.{any, all}
 use Rattle.std.specs.Prelude.{if◌then◌else◌}
 use Rattle.words.specs.Over.{within}
 use Rattle.board.specs.Quantities.{is_sector, named, first_indexed, first_numbered}
-use Rattle.board.specs.Regions.{place_of}
+use Rattle.board.specs.Regions.{inside, place_of}
 use Rattle.board.specs.Usd.{beside_bits, protection_on}
 use Rattle.board.specs.View.{view_of, write_protected}
 use Rattle.board.specs.declared.Address.{Address}
 use Rattle.board.specs.declared.Place.{Place}
-use Rattle.board.specs.declared.Place.TheVariants.{In, Nowhere}
 use Rattle.board.specs.declared.Sector.{Sector}
 use Rattle.memories.specs.Memories.{Memories, bytes_of, proper}
 use Rattle.command.specs.Progress.{staged_with}
@@ -78,9 +77,9 @@ abbrev pub is_named : Session → Address → Bool
 is_named s a = within s.address (count_of_bytes s) a.0
 
 -- the byte at an address
-abbrev pub byte_in : Place → Memories → ℕ
-byte_in (In r at) m = get_or (bytes_of r m) at 0
-byte_in Nowhere m = 0
+abbrev pub byte_in : Option Place → Memories → ℕ
+byte_in (Some p) m = get_or (bytes_of p.region m) p.at 0
+byte_in None m = 0
 
 abbrev pub byte_at : Address → Memories → ℕ
 byte_at a m = byte_in (place_of a 1) m

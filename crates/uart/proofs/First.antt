@@ -5,7 +5,7 @@ use mathlib.Core.Bool.{Bool, true, false, not, ◌&&◌}
 use mathlib.Core.List.{List, [], ◌∷◌}
 use lib.Dec.{T, eqb, leb, eqb→eq}
 use lib.ListN.{get_or, take}
-use Rattle.std.specs.Prelude.{if◌then◌else◌}
+use Rattle.std.specs.Prelude.{if◌then◌else◌, Option, Some, None}
 use Rattle.words.specs.Bytes.{number}
 use Rattle.words.specs.Lists.{all}
 use Rattle.words.proofs.Tests.{both_left, both_right}
@@ -21,8 +21,6 @@ use Rattle.command.specs.Tests.{◌when◌, first_reason, GivesFirst, in_order, 
 use Rattle.command.specs.Why.{no_reason, reason_of}
 use Rattle.command.specs.declared.Command.{Command}
 use Rattle.command.specs.declared.Decision.{Decision}
-use Rattle.command.specs.declared.Lookup.{Lookup}
-use Rattle.command.specs.declared.Lookup.TheVariants.{Known, Unknown}
 use Rattle.command.specs.declared.Next.TheVariants.{Gather}
 use Rattle.command.specs.declared.FixedReply.TheVariants.{Silence}
 use Rattle.command.specs.declared.Why.{Why}
@@ -44,9 +42,9 @@ use Rattle.uart.specs.declared.Step.TheVariants.{EraseSelector, SpecialCheck, Er
 abbrev obeys : Command → Bool
 obeys c = eqb (reason_of (obeyed c).reply) no_reason
 
-abbrev Obeys : Lookup → Type 0
-Obeys (Known c) = T (obeys c)
-Obeys Unknown = Unit {0}
+abbrev Obeys : Option Command → Type 0
+Obeys (Some c) = T (obeys c)
+Obeys None = Unit {0}
 
 -- so is what is found in a list of which all are
 found_obeys : (cs : List Command) (n : ℕ) → T (all obeys cs) → Obeys (look_up cs n)
@@ -54,7 +52,7 @@ found_obeys [] n h = tt
 found_obeys (c ∷ cs) n h =
     by_test (eqb n (code c)) (both_left (obeys c) (all obeys cs) h) (found_obeys cs n (both_right (obeys c) (all obeys cs) h))
   where
-    by_test : (t : Bool) → Obeys (Known c) → Obeys (look_up cs n) → Obeys (if t then Known c else look_up cs n)
+    by_test : (t : Bool) → Obeys (Some c) → Obeys (look_up cs n) → Obeys (if t then Some c else look_up cs n)
     by_test true h k = h
     by_test false h k = k
 
@@ -62,10 +60,10 @@ all_obey : T (all obeys uart_commands)
 unfolding obeyed
 all_obey = tt
 
-commanded_first : (view : View) (l : Lookup) → Obeys l → GivesFirst (commanded view l) (command_tests view l)
+commanded_first : (view : View) (l : Option Command) → Obeys l → GivesFirst (commanded view l) (command_tests view l)
 unfolding commanded
-commanded_first view (Known c) h = passed UnknownCommand (unless_first view c [] tt (unrefused (eqb→eq _ _ h)))
-commanded_first view Unknown h = refused_first UnknownCommand _ tt
+commanded_first view (Some c) h = passed UnknownCommand (unless_first view c [] tt (unrefused (eqb→eq _ _ h)))
+commanded_first view None h = refused_first UnknownCommand _ tt
 
 -- ---- addresses and selectors
 

@@ -6,6 +6,7 @@ use native.Mathlib.Omega.{arith}
 use lib.Dec.{T, eqb, leb, ltb}
 use lib.ListN.{length, get_or}
 use borrow.Author.Tests.{le-leb, lt-ltb, eq-eqb}
+use Rattle.std.specs.Prelude.{Option, Some, None}
 use Rattle.board.specs.declared.Address.{Address}
 use Rattle.board.specs.declared.View.{View}
 use Rattle.command.specs.Decision.{answer, nack}
@@ -13,8 +14,6 @@ use Rattle.command.specs.declared.Command.{Command}
 use Rattle.command.specs.declared.Command.TheVariants.{GetCommands, GetVersion, GetDeviceId, ReadMemory, Jump, WriteMemory, Erase, ProgramProtect}
 use Rattle.command.specs.declared.Command.TheVariants.{ProgramUnprotect, AccessProtect, AccessUnprotect, FirmwareCrc, ResetDevice, Speed}
 use Rattle.command.specs.declared.Decision.{Decision}
-use Rattle.command.specs.declared.Lookup.{Lookup}
-use Rattle.command.specs.declared.Lookup.TheVariants.{Known, Unknown}
 use Rattle.command.specs.declared.Next.{Next}
 use Rattle.command.specs.declared.FixedReply.{FixedReply}
 use Rattle.command.specs.declared.Why.{Why}
@@ -63,10 +62,10 @@ module _ (more : Bool) (bytes : List ℕ) where
   obeyed_good ResetDevice = goes tt
   obeyed_good Speed = goes tt
 
-  commanded_good : (view : View) (k : Lookup) → Holds GoodOnUart (commanded view k)
+  commanded_good : (view : View) (k : Option Command) → Holds GoodOnUart (commanded view k)
   unfolding commanded
-  commanded_good view (Known k) = unless_either GoodOnUart view k refused (obeyed_good k)
-  commanded_good view Unknown = goes tt
+  commanded_good view (Some k) = unless_either GoodOnUart view k refused (obeyed_good k)
+  commanded_good view None = goes tt
 
   addressed_good : (go : Address → Decision) → ((a : Address) → Holds GoodOnUart (go a)) → Holds GoodOnUart (addressed go bytes)
   unfolding addressed

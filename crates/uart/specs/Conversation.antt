@@ -1,5 +1,5 @@
 -- The UART conversation, step by step: document 01, "UART conversation".
-use Rattle.std.specs.Prelude.{ℕ, ◌+◌, Bool, List, [], ◌∷◌, ◌++◌, map, length, get_or, take, eqb}
+use Rattle.std.specs.Prelude.{ℕ, ◌+◌, Bool, List, [], ◌∷◌, ◌++◌, map, length, get_or, take, eqb, Option, Some, None}
 use Rattle.words.specs.Bytes.{complement, xor_all, number, two_bytes}
 use Rattle.board.specs.Board.{address, identity}
 use Rattle.board.specs.Quantities.{count_of, less_one, one_less, address_in, count_sent, address_bytes, selector_bytes, long_count_bytes, numbers_bytes}
@@ -15,8 +15,6 @@ use Rattle.command.specs.declared.Command.{Command}
 use Rattle.command.specs.declared.Command.TheVariants.{GetCommands, GetVersion, GetDeviceId, ReadMemory, Jump, WriteMemory, Erase, ProgramProtect}
 use Rattle.command.specs.declared.Command.TheVariants.{ProgramUnprotect, AccessProtect, AccessUnprotect, FirmwareCrc, ResetDevice, Speed}
 use Rattle.command.specs.declared.Decision.{Decision}
-use Rattle.command.specs.declared.Lookup.{Lookup}
-use Rattle.command.specs.declared.Lookup.TheVariants.{Known, Unknown}
 use Rattle.command.specs.declared.Next.TheVariants.{Gather, GoIdle, Enter, EnterAt}
 use Rattle.command.specs.declared.FixedReply.TheVariants.{Silence, Ack, Commands, Version, DeviceId}
 use Rattle.command.specs.declared.Why.TheVariants.{BadComplement, UnknownCommand, BadChecksum, BadAddress, BadRange}
@@ -83,9 +81,9 @@ obeyed ResetDevice = resetting
 obeyed Speed = nack UnknownCommand
 
 -- unknown or protected: NACK
-unfoldable pub commanded : View → Lookup → Decision
-commanded view (Known c) = unless_protected view c (obeyed c)
-commanded view Unknown = nack UnknownCommand
+unfoldable pub commanded : View → Option Command → Decision
+commanded view (Some c) = unless_protected view c (obeyed c)
+commanded view None = nack UnknownCommand
 
 -- an address and the XOR of its four bytes
 unfoldable pub addressed : (Address → Decision) → List ℕ → Decision
@@ -93,15 +91,38 @@ addressed go bytes =
     if checks (take address_bytes bytes) (get_or bytes address_bytes 0) gives go (address_in bytes)
     else nack BadChecksum
 
--- an address that passes a test is kept, and a step is entered
+-- an address that is good is kept, and a step is entered
+abbrev pub kept : Bool → Step → ℕ → Address → Decision
+kept good s e a = if good gives answer Ack (EnterAt (step_no s) e a.0) else nack BadAddress
+
+-- an address is good where it passes a test
 unfoldable pub kept_if : (Address → Bool) → Step → ℕ → Address → Decision
-kept_if good s e a = if good a gives answer Ack (EnterAt (step_no s) e a.0) else nack BadAddress
+kept_if good s e a = kept (good a) s e a
 
 -- two selector bytes: the special one is kept in the address
 unfoldable pub selected : Selector → Decision
 selected (Listed n) = answer Silence (Enter (step_no EraseList) (expected_for_numbers (count_of n)))
 selected (Special n) = answer Silence (EnterAt (step_no SpecialCheck) one_byte n)
 selected Impossible = nack BadRange
+
+-- the end of a read's length and its complement
+abbrev pub read_ends : ℕ → List ℕ → Decision
+read_ends a bytes = if complemented bytes gives reading (address a) (count_of (less_one (get_or bytes 0 0))) else nack BadChecksum
+
+-- the end of an erase's selector
+abbrev pub selector_ends : List ℕ → Decision
+selector_ends bytes = selected (selector_of (number (take selector_bytes bytes)))
+
+-- the end of the indexes of 0x63 and their checksum
+abbrev pub protect_ends : ℕ → List ℕ → Decision
+protect_ends e bytes = if checks_counted (count_in e) bytes gives protecting bytes (count_in e) else nack BadChecksum
+
+-- the end of Firmware CRC's count and its checksum
+abbrev pub crc_ends : ℕ → List ℕ → Decision
+crc_ends a bytes =
+    if checks (0xFF ∷ take long_count_bytes bytes) (get_or bytes long_count_bytes 0)
+    gives summing (address a) (count_sent (take long_count_bytes bytes))
+    else nack BadChecksum
 
 -- a step whose bytes are all there: what it expected, the session's address, the staged bytes, the view
 unfoldable pub complete : Step → ℕ → ℕ → List ℕ → View → Decision
@@ -111,24 +132,19 @@ complete ReadAddress e a bytes view = addressed (kept_if known ReadLength comple
 complete JumpAddress e a bytes view = addressed jumping bytes
 complete WriteAddress e a bytes view = addressed (kept_if known WriteLength one_byte) bytes
 complete CrcAddress e a bytes view = addressed (kept_if sector_start CrcCount checked_count) bytes
-complete ReadLength e a bytes view =
-    if complemented bytes gives reading (address a) (count_of (less_one (get_or bytes 0 0))) else nack BadChecksum
+complete ReadLength e a bytes view = read_ends a bytes
 complete WriteLength e a bytes view = awaits WriteData bytes
 complete WriteData e a bytes view =
     if checks_counted (count_in e) bytes gives writing view (address a) (count_in e) else nack BadChecksum
-complete EraseSelector e a bytes view = selected (selector_of (number (take selector_bytes bytes)))
+complete EraseSelector e a bytes view = selector_ends bytes
 complete SpecialCheck e a bytes view =
     if checks (two_bytes a) (get_or bytes 0 0) gives judged (erase_all_verdict view a) (alter Ack EraseAll GoIdle)
     else nack BadChecksum
 complete EraseList e a bytes view =
     if checks_numbered (numbers_in e) bytes gives erasing view bytes (numbers_in e) else nack BadChecksum
 complete ProtectLength e a bytes view = awaits ProtectList bytes
-complete ProtectList e a bytes view =
-    if checks_counted (count_in e) bytes gives protecting bytes (count_in e) else nack BadChecksum
-complete CrcCount e a bytes view =
-    if checks (0xFF ∷ take long_count_bytes bytes) (get_or bytes long_count_bytes 0)
-    gives summing (address a) (count_sent (take long_count_bytes bytes))
-    else nack BadChecksum
+complete ProtectList e a bytes view = protect_ends e bytes
+complete CrcCount e a bytes view = crc_ends a bytes
 
 -- one byte of a connected host: gathered, or the last of its step
 unfoldable pub heard : Step → Progress → View → ℕ → Decision

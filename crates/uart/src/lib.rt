@@ -66,35 +66,21 @@ pub fn has_room(length: usize) -> bool
     ROOM <= length
 }
 
-impl Step {
-    // The number of the step.
-    pub fn number(self) -> u8
-        ensures { result ≡ step_no self }
-    {
-        match self {
-            Step::Idle => 0,
-            Step::ReadAddress => 1,
-            Step::JumpAddress => 2,
-            Step::WriteAddress => 3,
-            Step::CrcAddress => 4,
-            Step::ReadLength => 5,
-            Step::WriteLength => 6,
-            Step::WriteData => 7,
-            Step::EraseSelector => 8,
-            Step::SpecialCheck => 9,
-            Step::EraseList => 10,
-            Step::ProtectLength => 11,
-            Step::ProtectList => 12,
-            Step::CrcCount => 13,
-        }
-    }
+impl From<Step> for u8 {
+    ghost from_gives = { λ step number. number ≡ step_no step };
 
+    // The number of the step.
+    fn from(step: Step) -> u8 {
+        step as u8
+    }
+}
+
+impl Step {
     // The step of a number; idle where there is none.
     pub fn of(number: u8) -> Step
         ensures { result ≡ step_of number }
     {
         match number {
-            0 => Step::Idle,
             1 => Step::ReadAddress,
             2 => Step::JumpAddress,
             3 => Step::WriteAddress,
@@ -137,19 +123,18 @@ impl Step {
     {
         match self {
             Step::Idle => 0,
-            Step::ReadAddress => COMPLEMENTED_BYTE,
-            Step::JumpAddress => COMPLEMENTED_BYTE,
-            Step::WriteAddress => COMPLEMENTED_BYTE,
-            Step::CrcAddress => COMPLEMENTED_BYTE,
-            Step::ReadLength => COMPLEMENTED_BYTE + CHECKED_ADDRESS,
-            Step::WriteLength => COMPLEMENTED_BYTE + CHECKED_ADDRESS,
+            Step::ReadAddress
+            | Step::JumpAddress
+            | Step::WriteAddress
+            | Step::CrcAddress
+            | Step::EraseSelector
+            | Step::ProtectLength => COMPLEMENTED_BYTE,
+            Step::ReadLength | Step::WriteLength | Step::CrcCount => {
+                COMPLEMENTED_BYTE + CHECKED_ADDRESS
+            }
             Step::WriteData => COMPLEMENTED_BYTE + CHECKED_ADDRESS + ONE_BYTE,
-            Step::EraseSelector => COMPLEMENTED_BYTE,
-            Step::SpecialCheck => COMPLEMENTED_BYTE + SELECTOR_BYTES,
-            Step::EraseList => COMPLEMENTED_BYTE + SELECTOR_BYTES,
-            Step::ProtectLength => COMPLEMENTED_BYTE,
+            Step::SpecialCheck | Step::EraseList => COMPLEMENTED_BYTE + SELECTOR_BYTES,
             Step::ProtectList => COMPLEMENTED_BYTE + ONE_BYTE,
-            Step::CrcCount => COMPLEMENTED_BYTE + CHECKED_ADDRESS,
         }
     }
 }

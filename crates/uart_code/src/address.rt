@@ -1,15 +1,11 @@
 // What an address decides, by the command that it belongs to.
-ghost use Rattle.std.specs.Prelude.{◌≡◌, length, get_or, take};
-ghost use Rattle.board.specs.Quantities.{address_bytes};
-ghost use Rattle.board.specs.Regions.{known, sector_start};
+ghost use Rattle.std.specs.Prelude.{◌≡◌, Bool, length, get_or, take};
+ghost use Rattle.board.specs.Quantities.{address_bytes, address_in};
 ghost use Rattle.memories.specs.Effects.{staged_bytes};
-ghost use Rattle.command.specs.Decision.{if◌gives◌else◌, answer, nack};
-ghost use Rattle.command.specs.declared.Next.TheVariants.{EnterAt};
-ghost use Rattle.command.specs.declared.FixedReply.TheVariants.{Ack};
-ghost use Rattle.command.specs.declared.Why.TheVariants.{BadAddress, BadChecksum};
+ghost use Rattle.command.specs.Decision.{if◌gives◌else◌, nack};
+ghost use Rattle.command.specs.declared.Why.TheVariants.{BadChecksum};
 ghost use Rattle.rules.specs.Rules.{jumping};
-ghost use Rattle.uart.specs.Steps.{step_no};
-ghost use Rattle.uart.specs.Conversation.{checks, addressed, kept_if};
+ghost use Rattle.uart.specs.Conversation.{checks, addressed, kept};
 
 use board::Address;
 use command::{Decision, FixedReply, Next, Why};
@@ -26,41 +22,28 @@ fn addressed(bytes: &[u8], decision: Decision) -> Decision
     command::accept_if(right, decision, Why::BadChecksum)
 }
 
-// An address that passes is kept, and a step is entered.
-fn kept(good: bool, step: Step, expected: usize, address: Address) -> Decision
-    ensures { result ≡ (if good gives answer Ack (EnterAt (step_no step) expected address.0) else nack BadAddress) }
+// The end of an address that is kept, and a step entered, where it passes a test.
+pub fn kept<F: Fn(Address) -> bool>(
+    bytes: &[u8],
+    passes: F,
+    next: Step,
+    expected: usize,
+) -> Decision
+    requires staged { length bytes.now ≡ staged_bytes }
+    requires tested { F.pre passes (address_in bytes.now) }
+    ensures { (good : Bool) × F.post passes (address_in bytes.now) good × (result ≡ addressed (kept good next expected) bytes.now) }
 {
-    command::accept_if(
-        good,
-        command::answer(
-            FixedReply::Ack,
-            Next::EnterAt(step.number(), expected, address.0),
+    let address = sent::address_in(bytes);
+    addressed(
+        bytes,
+        command::accept_if(
+            passes(address),
+            command::answer(
+                FixedReply::Ack,
+                Next::EnterAt(u8::from(next), expected, address.0),
+            ),
+            Why::BadAddress,
         ),
-        Why::BadAddress,
-    )
-}
-
-// The end of the address of 0x11 or 0x31.
-pub fn region_address(bytes: &[u8], next: Step, expected: usize) -> Decision
-    requires { length bytes.now ≡ staged_bytes }
-    ensures { result ≡ addressed (kept_if known next expected) bytes.now }
-{
-    let address = sent::address_in(bytes);
-    addressed(
-        bytes,
-        kept(board::range::known(address), next, expected, address),
-    )
-}
-
-// The end of the address of 0xAC.
-pub fn crc_address(bytes: &[u8], next: Step, expected: usize) -> Decision
-    requires { length bytes.now ≡ staged_bytes }
-    ensures { result ≡ addressed (kept_if sector_start next expected) bytes.now }
-{
-    let address = sent::address_in(bytes);
-    addressed(
-        bytes,
-        kept(board::range::sector_start(address), next, expected, address),
     )
 }
 

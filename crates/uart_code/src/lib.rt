@@ -1,5 +1,5 @@
 // What one byte of a connected host decides, step by step.
-#![tactic(auto)]
+#![tactic(auto, unfolding(uart::specs::Conversation::complete, uart::specs::Conversation::addressed, uart::specs::Conversation::kept_if, uart::specs::Conversation::selected, uart::specs::Conversation::commanded, uart::specs::Conversation::obeyed))]
 
 mod address;
 mod checksum;
@@ -7,13 +7,13 @@ mod obey;
 
 ghost use Rattle.std.specs.Prelude.{◌≡◌, ◌+◌, ◌≤◌, ◌<◌, T, ltb, length};
 ghost use Rattle.board.specs.Board.{sectors};
-ghost use Rattle.board.specs.Quantities.{largest_count, selector_bytes};
+ghost use Rattle.board.specs.Quantities.{largest_count};
 ghost use Rattle.memories.specs.Effects.{staged_bytes};
 ghost use Rattle.command.specs.Decision.{if◌gives◌else◌, answer};
 ghost use Rattle.command.specs.declared.Next.TheVariants.{Gather};
 ghost use Rattle.command.specs.declared.FixedReply.TheVariants.{Silence};
-ghost use Rattle.uart.specs.Steps.{step_of, expects, complemented_byte, one_byte, checked_count, expected_for, expected_for_numbers};
-ghost use Rattle.uart.specs.Conversation.{awaits, selected, complete};
+ghost use Rattle.uart.specs.Steps.{step_of, expects, complemented_byte, one_byte, expected_for, expected_for_numbers};
+ghost use Rattle.uart.specs.Conversation.{awaits, selected, read_ends, selector_ends, protect_ends, crc_ends, complete};
 
 use board::{Address, Sector, View};
 use command::{Decision, FixedReply, Next, Why};
@@ -32,7 +32,7 @@ fn awaits(step: Step, bytes: &[u8]) -> Decision
 {
     command::answer(
         FixedReply::Silence,
-        Next::Enter(step.number(), sent::count_of(bytes[0]) + 1),
+        Next::Enter(u8::from(step), sent::count_of(bytes[0]) + 1),
     )
 }
 
@@ -45,14 +45,14 @@ fn selected(selector: Selector) -> Decision
             command::answer(
                 FixedReply::Silence,
                 Next::Enter(
-                    Step::EraseList.number(),
+                    u8::from(Step::EraseList),
                     Sector::NUMBER_BYTES * sent.count() + 1,
                 ),
             )
         }
         Selector::Special(number) => command::answer(
             FixedReply::Silence,
-            Next::EnterAt(Step::SpecialCheck.number(), uart::ONE_BYTE, number as u32),
+            Next::EnterAt(u8::from(Step::SpecialCheck), uart::ONE_BYTE, number as u32),
         ),
         Selector::Impossible => command::nack(Why::BadRange),
     }
@@ -73,7 +73,7 @@ fn command_ends(view: View, bytes: &[u8]) -> Decision
 // The end of a read's length and its complement.
 fn read_ends(address: u32, bytes: &[u8]) -> Decision
     requires { length bytes.now ≡ staged_bytes }
-    ensures { (view : View) → result ≡ complete Step.ReadLength complemented_byte address bytes.now view }
+    ensures { result ≡ read_ends address bytes.now }
 {
     command::accept_if(
         checksum::complemented(bytes),
@@ -98,7 +98,7 @@ fn write_ends(view: View, expected: usize, address: u32, bytes: &[u8]) -> Decisi
 // The end of an erase's selector.
 fn selector_ends(bytes: &[u8]) -> Decision
     requires { length bytes.now ≡ staged_bytes }
-    ensures { (view : View) → result ≡ complete Step.EraseSelector selector_bytes 0 bytes.now view }
+    ensures { result ≡ selector_ends bytes.now }
 {
     selected(list_rules_code::erase::selector_of(words::number2(bytes[0], bytes[1])))
 }
@@ -134,7 +134,7 @@ fn erase_ends(view: View, expected: usize, bytes: &[u8]) -> Decision
 // The end of the indexes of 0x63 and their checksum.
 fn protect_ends(expected: usize, bytes: &[u8]) -> Decision
     requires { (expected_for 1 ≤ expected) × (expected ≤ expected_for largest_count) × (length bytes.now ≡ staged_bytes) }
-    ensures { (view : View) → result ≡ complete Step.ProtectList expected 0 bytes.now view }
+    ensures { result ≡ protect_ends expected bytes.now }
 {
     let x = expected - 1;
     command::accept_if(
@@ -147,7 +147,7 @@ fn protect_ends(expected: usize, bytes: &[u8]) -> Decision
 // The end of Firmware CRC's count and its checksum.
 fn crc_ends(address: u32, bytes: &[u8]) -> Decision
     requires { length bytes.now ≡ staged_bytes }
-    ensures { (view : View) → result ≡ complete Step.CrcCount checked_count address bytes.now view }
+    ensures { result ≡ crc_ends address bytes.now }
 {
     command::accept_if(
         bytes[2] == words::xor_from(CRC_CHECK, bytes, 2),
@@ -163,14 +163,25 @@ fn complete(step: Step, expected: usize, address: u32, bytes: &[u8], view: View)
 {
     match step {
         Step::Idle => command_ends(view, bytes),
-        Step::ReadAddress => address::region_address(
+        Step::ReadAddress => address::kept(
             bytes,
+            board::range::known,
             Step::ReadLength,
             uart::COMPLEMENTED_BYTE,
         ),
         Step::JumpAddress => address::jump_address(bytes),
-        Step::WriteAddress => address::region_address(bytes, Step::WriteLength, uart::ONE_BYTE),
-        Step::CrcAddress => address::crc_address(bytes, Step::CrcCount, uart::CHECKED_COUNT),
+        Step::WriteAddress => address::kept(
+            bytes,
+            board::range::known,
+            Step::WriteLength,
+            uart::ONE_BYTE,
+        ),
+        Step::CrcAddress => address::kept(
+            bytes,
+            board::range::sector_start,
+            Step::CrcCount,
+            uart::CHECKED_COUNT,
+        ),
         Step::ReadLength => read_ends(address, bytes),
         Step::WriteLength => awaits(Step::WriteData, bytes),
         Step::WriteData => write_ends(view, expected, address, bytes),

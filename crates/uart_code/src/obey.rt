@@ -4,27 +4,23 @@ ghost use Rattle.command.specs.Commands.{uart_commands, look_up};
 ghost use Rattle.uart.specs.Conversation.{go_on, obeyed, commanded};
 
 use board::View;
-use command::{Command, Decision, FixedReply, Lookup, Next, Why, code};
+use command::{Command, Decision, FixedReply, Next, Why, code};
+use memories::Change;
 use rules_code::at_once;
 use uart::Step;
 
 // The command that a byte asks for, if there is one: UART has not the one that sets the speed.
-pub fn look_up(byte: u8) -> Lookup
+pub fn look_up(byte: u8) -> Option<Command>
     ensures { result ≡ look_up uart_commands byte }
 {
-    let speed = byte == code::SPEED;
-    if speed {
-        Lookup::Unknown
-    } else {
-        code::look_up(byte)
-    }
+    code::look_up(byte).filter(|_| byte != code::SPEED)
 }
 
 // ACK, and a step is entered.
 fn go_on(step: Step, expected: usize) -> Decision
     ensures { result ≡ go_on step expected }
 {
-    command::answer(FixedReply::Ack, Next::Enter(step.number(), expected))
+    command::answer(FixedReply::Ack, Next::Enter(u8::from(step), expected))
 }
 
 // A command's ACK, with what it asks for.
@@ -40,9 +36,9 @@ fn obeyed(command: Command) -> Decision
         Command::WriteMemory => go_on(Step::WriteAddress, uart::CHECKED_ADDRESS),
         Command::Erase => go_on(Step::EraseSelector, uart::SELECTOR_BYTES),
         Command::ProgramProtect => go_on(Step::ProtectLength, uart::ONE_BYTE),
-        Command::ProgramUnprotect => at_once::release(),
-        Command::AccessProtect => at_once::lock(),
-        Command::AccessUnprotect => at_once::unlock(),
+        Command::ProgramUnprotect => at_once::alter(Change::Release),
+        Command::AccessProtect => at_once::alter(Change::Lock),
+        Command::AccessUnprotect => at_once::alter(Change::Unlock),
         Command::FirmwareCrc => go_on(Step::CrcAddress, uart::CHECKED_ADDRESS),
         Command::ResetDevice => at_once::reset(),
         Command::Speed => command::nack(Why::UnknownCommand),
@@ -50,15 +46,11 @@ fn obeyed(command: Command) -> Decision
 }
 
 // A command that is known and not forbidden is obeyed.
-pub fn commanded(view: View, lookup: Lookup) -> Decision
-    ensures { result ≡ commanded view lookup }
+pub fn commanded(view: View, found: Option<Command>) -> Decision
+    ensures { result ≡ commanded view found }
 {
-    match lookup {
-        Lookup::Known(command) => rules_code::protected::unless_protected(
-            view,
-            command,
-            obeyed(command),
-        ),
-        Lookup::Unknown => command::nack(Why::UnknownCommand),
+    match found {
+        Some(command) => rules_code::protected::unless_protected(view, command, obeyed(command)),
+        None => command::nack(Why::UnknownCommand),
     }
 }

@@ -1,111 +1,155 @@
 // Reads a vector (docs/VECTORS.md).
-ghost use Rattle.std.specs.Prelude.{◌+◌, ◌≤◌};
-ghost use Rattle.io.specs.Counts.{IsPrefixLen};
+ghost use Rattle.std.specs.Prelude.{◌+◌, ◌≤◌, length};
 ghost use Rattle.numbers.specs.Numbers.{short_bytes};
 ghost use Rattle.vector_lines.specs.Sizes.{vector_bytes};
 
+use crate::FIELDS;
 use board::Board;
 use boot::Session;
+use desk_lines::line;
 use numbers::SHORT;
+use std::io::Read;
+use words::FIELD;
 
 // How many bytes a vector has, and where its parts stand: first a session's numbers, as they are lent.
-pub const BYTES: usize = 83;
+const BYTES: usize = 83;
 
 const STAGED: usize = session_bytes::STAGED;
 
 const STAGED_FRONT: usize = 25;
 
-pub const FLASH: usize = 41;
+const FLASH: usize = 41;
 
-pub const SRAM: usize = 47;
+const SRAM: usize = 47;
 
-pub const USD: usize = 53;
+const USD: usize = 53;
 
 const PROTECTION: usize = 59;
 
 const SECTORS: usize = 60;
 
-pub const BUFFER: usize = 64;
+const BUFFER: usize = 64;
 
-pub const BYTE: usize = 69;
+const BYTE: usize = 69;
 
-pub const FRAME_LENGTH: usize = 70;
+const FRAME_LENGTH: usize = 70;
 
-pub const FRAME: usize = 71;
-
-// How many bytes of each part a vector says one by one.
-const STAGED_GIVEN: usize = 16;
-
-const PROTECTION_GIVEN: usize = 1;
-
-const SECTORS_GIVEN: usize = 4;
+const FRAME: usize = 71;
 
 // Where, behind a memory's length, its seed and its stride stand.
 const SEED: usize = SHORT;
 
 const STRIDE: usize = SEED + 1;
 
-// How many bytes a memory is to have, which a vector says at a place, and no more than there is room for.
-pub fn extent(vector: &[u8; BYTES], at: usize, room: &[u8]) -> usize
-    requires { at + short_bytes ≤ vector_bytes }
-    ensures { IsPrefixLen result room.now }
-{
-    words::least(numbers::short_at(vector, at) as usize, room.len())
+// Where a vector's bytes end in its line, and how many characters that has with its LF.
+const FIELDS_END: usize = FIELDS + FIELD * BYTES;
+
+const LINE: usize = FIELDS_END + 1;
+
+// The letter of a vector whose call takes a byte.
+const TAKES_BYTE: u8 = b'B';
+
+// A vector: the letter of its line, and its bytes.
+#[derive(Clone, Copy)]
+pub struct Vector {
+    letter: u8,
+    bytes: [u8; BYTES],
+}
+
+// What the call of a vector takes.
+#[derive(Clone, Copy)]
+pub enum Input<'a> {
+    Byte(u8),
+    Frame(&'a [u8]),
 }
 
 // Fills a memory by a seed and a stride from each byte to the next.
 fn fill(memory: &mut [u8], seed: u8, stride: u8) {
     let mut value = seed;
-    for i in 0..memory.len() {
-        memory[i] = value;
-        value = std::num::wrapping_add_u8(value, stride);
+    for slot in memory.iter_mut() {
+        *slot = value;
+        value = value.wrapping_add(stride);
     }
 }
 
-// Lays n bytes of a vector, from a place of theirs on, over a memory as far as it reaches.
-fn lay(memory: &mut [u8], at: usize, vector: &[u8; BYTES], from: usize, n: usize)
-    requires { from + n ≤ vector_bytes }
-{
-    let end = memory.len();
-    if at < end {
-        words::copy(memory, at, vector, from, words::least(end - at, n));
+// Lays bytes over a memory from a place on, as far as it reaches.
+fn lay(memory: &mut [u8], at: usize, bytes: &[u8]) {
+    for (slot, byte) in memory.iter_mut().skip(at).zip(bytes) {
+        *slot = *byte;
     }
 }
 
-// Fills user system data by its seed and stride, and by the bytes that a vector says one by one.
-fn fill_usd(vector: &[u8; BYTES], usd: &mut [u8]) {
-    fill(usd, vector[USD + SEED], vector[USD + STRIDE]);
-    lay(usd, Board::PROTECTION, vector, PROTECTION, PROTECTION_GIVEN);
-    lay(usd, Board::SECTOR_BITS, vector, SECTORS, SECTORS_GIVEN);
-}
+impl Vector {
+    // The vector that the next line writes.
+    pub fn read<F: Read>(from: &mut F) -> Option<Vector> {
+        let mut text = [0u8; LINE];
+        from.read_exact(&mut text).ok()?;
+        let fields = &text[FIELDS..FIELDS_END];
+        let good = line::are_fields(fields);
+        if !good {
+            return None;
+        }
+        let mut bytes = [0u8; BYTES];
+        desk_written::bytes(fields, &mut bytes);
+        Some(Vector {
+            letter: text[0],
+            bytes,
+        })
+    }
 
-// Fills what is lent as a vector says.
-pub fn fill_lent(
-    vector: &[u8; BYTES],
-    flash: &mut [u8],
-    sram: &mut [u8],
-    usd: &mut [u8],
-    buffer: &mut [u8],
-) {
-    fill(flash, vector[FLASH + SEED], vector[FLASH + STRIDE]);
-    fill(sram, vector[SRAM + SEED], vector[SRAM + STRIDE]);
-    fill_usd(vector, usd);
-    fill(buffer, vector[BUFFER + SEED], 0);
-}
+    // The session: its numbers as they are lent, and its staged bytes by seed and stride and one by one.
+    pub fn session(&self) -> Session {
+        let mut lent = [0u8; session_bytes::LENGTH];
+        let (numbers, staged) = lent.split_at_mut(STAGED);
+        numbers.copy_from_slice(&self.bytes[..STAGED]);
+        fill(staged, self.bytes[STAGED], self.bytes[STAGED + 1]);
+        lay(staged, 0, &self.bytes[STAGED_FRONT..FLASH]);
+        session_bytes::read(&lent)
+    }
 
-// The session that a vector says: its numbers as they are lent, and its staged bytes by seed and stride and one by one.
-pub fn session(vector: &[u8; BYTES]) -> Session {
-    let mut staged = [0u8; memories::STAGED];
-    fill(&mut staged, vector[STAGED], vector[STAGED + 1]);
-    words::copy(&mut staged, 0, vector, STAGED_FRONT, STAGED_GIVEN);
-    let mut lent = [0u8; session_bytes::LENGTH];
-    words::copy(&mut lent, 0, vector, 0, session_bytes::STAGED);
-    words::copy(
-        &mut lent,
-        session_bytes::STAGED,
-        &staged,
-        0,
-        memories::STAGED,
-    );
-    session_bytes::read(&lent)
+    // As much of a room as is said at a place, filled by the seed behind that and a stride.
+    fn memory<'a>(&self, at: usize, stride: u8, room: &'a mut [u8]) -> &'a mut [u8]
+        requires { at + short_bytes + 1 ≤ vector_bytes }
+        ensures { length result.now ≤ length room.old }
+    {
+        let n = (numbers::short_at(&self.bytes, at) as usize).min(room.len());
+        let memory = &mut room[..n];
+        fill(memory, self.bytes[at + SEED], stride);
+        memory
+    }
+
+    // The flash, in a room for it.
+    pub fn flash<'a>(&self, room: &'a mut [u8]) -> &'a mut [u8] {
+        self.memory(FLASH, self.bytes[FLASH + STRIDE], room)
+    }
+
+    // The SRAM, in a room for it.
+    pub fn sram<'a>(&self, room: &'a mut [u8]) -> &'a mut [u8] {
+        self.memory(SRAM, self.bytes[SRAM + STRIDE], room)
+    }
+
+    // User system data, in a room for it: by seed and stride, and by the bytes that are said one by one.
+    pub fn usd<'a>(&self, room: &'a mut [u8]) -> &'a mut [u8] {
+        let usd = self.memory(USD, self.bytes[USD + STRIDE], room);
+        lay(usd, Board::PROTECTION, &self.bytes[PROTECTION..SECTORS]);
+        lay(usd, Board::SECTOR_BITS, &self.bytes[SECTORS..BUFFER]);
+        usd
+    }
+
+    // The reply buffer, in a room for it, whose bytes are all one value.
+    pub fn buffer<'a>(&self, room: &'a mut [u8]) -> &'a mut [u8]
+        ensures { length result.now ≤ length room.old }
+    {
+        self.memory(BUFFER, 0, room)
+    }
+
+    // What the call takes, of which the letter tells whether it is a byte.
+    pub fn input(&self) -> Input<'_> {
+        if self.letter == TAKES_BYTE {
+            return Input::Byte(self.bytes[BYTE]);
+        }
+        let most = &self.bytes[FRAME..];
+        let n = usize::from(self.bytes[FRAME_LENGTH]).min(most.len());
+        Input::Frame(&most[..n])
+    }
 }

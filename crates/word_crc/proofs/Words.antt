@@ -4,8 +4,8 @@ use mathlib.Core.List.{List, [], ◌∷◌, ◌++◌, foldl}
 use Prim.Native.Nat.{ℕ, zero, suc, ◌+◌, ◌*◌, ◌-◌, ◌/◌, ◌%◌, ◌^◌, ◌≤◌, ◌<◌}
 use native.Mathlib.Omega.{arith}
 use lib.Bits.{bit_xor, xor_lt, xor_shifted}
-use lib.ListN.{length, get_or, take, drop, length-drop}
-use lib.Seq.{drop-cons, take_all}
+use lib.ListN.{length, get_or, take, drop, get_or-append, length-append, length-drop}
+use lib.Seq.{drop-cons, drop-drop, drop_at, get_or-drop, take_all}
 use Rattle.words.specs.Bytes.{number, four_bytes}
 use Rattle.crc.specs.Crc.{start, shifted_by, fed, crc_from}
 use Rattle.word_crc.proofs.Linear.{xor_assoc, linear_by, only_up, shifted_then, shifted_by_lt}
@@ -174,3 +174,48 @@ words_taken s r i b l h =
     let e : i + 4 + 4 ≡ i + 8 = omega arith in
     let m = word_fed_lt r (word_at i s) l (word_lt s i b) in
     word_taken s r i b l (omega arith) ∙ word_taken s (word_fed r (word_at i s)) (i + 4) b m (omega arith) ∙ rw e refl
+
+-- ---- eight bytes at the front, which are two words
+
+-- a word that stands in them
+word_front : (p l : List ℕ) (i : ℕ) → i + 3 < length p → word_at i (p ++ l) ≡ word_at i p
+word_front p l i h = rw (
+  get_or-append p l 0 i (omega arith),
+  get_or-append p l 0 (i + 1) (omega arith),
+  get_or-append p l 0 (i + 2) (omega arith),
+  get_or-append p l 0 (i + 3) h,
+) refl
+
+-- what is left of some bytes
+pub record Left (s rest : List ℕ) : Type 0 where
+  pub part : rest ≡ drop (length s - length rest) s
+  pub eights : length rest % 8 ≡ length s % 8
+
+-- at first all are
+pub all_left : (s : List ℕ) → Left s s
+all_left s =
+    let e : length s - length s ≡ 0 = omega arith in
+    record { part = rw e refl; eights = refl }
+
+-- a turn takes eight of them
+pub eight_taken : (s p l rest : List ℕ) (r : ℕ) → ((j : ℕ) → get_or s j 0 < 256) → r < 2 ^ 32 → Left s rest → rest ≡ p ++ l → length p ≡ 8
+    → Left s l × (crc_from r (fours_reversed rest) ≡ crc_from (word_fed (word_fed r (word_at 0 p)) (word_at 4 p)) (fours_reversed l))
+eight_taken s p l rest r b m k e n =
+    let whole : length rest ≡ 8 + length l = ap length e ∙ length-append p l ∙ ap (λ (j : ℕ). j + length l) n in
+    let long = ap length k.part ∙ length-drop (length s - length rest) s in
+    let at : 8 + (length s - length rest) ≡ length s - length l = omega arith in
+    let behind : l ≡ drop (length s - length l) s =
+    sym (drop_at p l 8 n) ∙ ap (λ (t : List ℕ). drop 8 t) (sym e ∙ k.part) ∙ drop-drop 8 (length s - length rest) s ∙ ap (λ (j : ℕ). drop j s) (omega arith) in
+    let byte : (j : ℕ) → get_or rest j 0 < 256 = λ j. rw k.part (rw get_or-drop (b (length s - length rest + j))) in
+    let words = words_taken rest r 0 byte m (omega arith) in (
+      record { part = behind; eights = omega arith },
+      ap (λ (t : List ℕ). crc_from r (fours_reversed t)) e
+          ∙ rw (e, drop_at p l 8 n, word_front p l 0 (omega arith), word_front p l 4 (omega arith)) at words,
+    )
+
+-- what is left at the end, fewer than eight
+pub eights_end : (s rest : List ℕ) → Left s rest → length rest < 8 → drop (length s - length s % 8) s ≡ rest
+eights_end s rest k h =
+    let long = ap length k.part ∙ length-drop (length s - length rest) s in
+    let e : length s % 8 ≡ length rest = omega (arith, k.eights) in
+    rw e (sym k.part)

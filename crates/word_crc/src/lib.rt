@@ -29,7 +29,7 @@ fn word(bytes: &[u8], at: usize) -> u32
     let low = bytes[at + 1];
     let high = bytes[at + 2];
     let highest = bytes[at + 3];
-    words::number4(highest, high, low, lowest)
+    u32::from_le_bytes([lowest, low, high, highest])
 }
 
 // The register shifted by the bits of a word and of some bytes more: the XOR of an entry for each of its four bytes.
@@ -53,18 +53,18 @@ fn take_two(register: u32, first: u32, second: u32, tables: &[u32; TABLES]) -> u
     shift_word(register ^ first, WORD, tables) ^ shift_word(second, 0, tables)
 }
 
-// The register with the bytes from a place on, fewer than two words.
-fn take_rest(register: u32, bytes: &[u8], from: usize, tables: &[u32; TABLES]) -> u32
-    requires from_in_bounds { from ≤ length bytes.now }
-    requires bytes_len_bound { length bytes.now < from + 8 }
+// The register with fewer than two words more.
+fn take_rest(register: u32, bytes: &[u8], tables: &[u32; TABLES]) -> u32
+    requires bytes_len_bound { length bytes.now < 8 }
     requires tables { Tables tables.now }
-    ensures { result ≡ crc_from register (fours_reversed (drop from bytes.now)) }
+    ensures { result ≡ crc_from register (fours_reversed bytes.now) }
 {
-    if from + WORD <= bytes.len() {
-        let sum = shift_word(register ^ word(bytes, from), 0, tables);
-        crc::crc_from(sum, &bytes[from + WORD..])
+    let whole = WORD <= bytes.len();
+    if whole {
+        let sum = shift_word(register ^ word(bytes, 0), 0, tables);
+        crc::crc_from(sum, &bytes[WORD..])
     } else {
-        crc::crc_from(register, &bytes[from..])
+        crc::crc_from(register, bytes)
     }
 }
 
@@ -73,14 +73,13 @@ pub fn crc(bytes: &[u8]) -> u32
     ensures { result ≡ word_crc bytes.now }
 {
     let tables = tables::tables();
-    let n = bytes.len();
     let mut register = crc::START;
-    let mut i = 0;
-    while n - i >= TWO_WORDS {
-        let first = word(bytes, i);
-        let second = word(bytes, i + WORD);
+    let pairs = bytes.chunks_exact(TWO_WORDS);
+    let rest = pairs.remainder();
+    for pair in pairs {
+        let first = word(pair, 0);
+        let second = word(pair, WORD);
         register = take_two(register, first, second, &tables);
-        i += TWO_WORDS;
     }
-    take_rest(register, bytes, i, &tables)
+    take_rest(register, rest, &tables)
 }

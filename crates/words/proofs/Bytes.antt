@@ -1,11 +1,12 @@
 -- The XOR of a number's two low bytes, and lists of bytes that are cut short.
-use mathlib.Core.Path.{◌≡◌, ◌∙◌}
+use mathlib.Core.Path.{◌≡◌, refl, ◌∙◌}
 use mathlib.Core.List.{List, [], ◌∷◌}
 use Prim.Native.Nat.{ℕ, zero, suc, ◌/◌, ◌%◌, ◌<◌}
 use native.Mathlib.Omega.{arith}
 use lib.Bits.{bit_xor, xor_zero_l}
 use lib.ListN.{get_or, take}
-use Rattle.words.specs.Bytes.{two_bytes, xor_all}
+use Rattle.std.specs.List.{fold}
+use Rattle.words.specs.Bytes.{two_bytes, xor_all, xor_from}
 
 -- of any number
 pub xor_two : (n : ℕ) → xor_all (two_bytes n) ≡ bit_xor (n / 256 % 256) (n % 256)
@@ -26,3 +27,8 @@ still_byte zero l h i = omega arith
 still_byte (suc n) [] h i = omega arith
 still_byte (suc n) (x ∷ l) h zero = h zero
 still_byte (suc n) (x ∷ l) h (suc i) = still_byte n l (λ j. h (suc j)) i
+
+-- the XOR of bytes is a fold over them
+pub fold_xor : (x : ℕ) (l : List ℕ) → fold bit_xor x l ≡ xor_from x l
+fold_xor x [] = refl
+fold_xor x (b ∷ l) = fold_xor (bit_xor x b) l

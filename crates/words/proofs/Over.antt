@@ -10,6 +10,7 @@ use lib.Dec.{leb, ltb}
 use lib.ListN.{length, get_or, set, take, drop, replicate, length-replicate, replicate-append-replicate}
 use lib.Seq.{take-suc, take-append_seam, drop-length, length-take-le}
 use borrow.Author.Tests.{leb-true, leb-false, ltb-true, ltb-false}
+use borrow.Rule.Slice.PartMut.{put_mid}
 use Rattle.std.specs.Prelude.{if◌then◌else◌}
 use Rattle.words.specs.Over.{over, newer, put, within}
 
@@ -151,3 +152,9 @@ over_then f (x ∷ m) zero (c ∷ a) b =
 -- bytes put behind bytes that were put
 pub put_then : (m : List ℕ) (at end : ℕ) (a b : List ℕ) → end ≡ at + length a → put (put m at a) end b ≡ put m at (a ++ b)
 put_then m at end a b e = rw e (over_then newer m at a b)
+
+-- bytes put where a part stood: what stood before them, they themselves, and what stood behind them
+pub put_part : (m : List ℕ) (at n : ℕ) (new : List ℕ) → length new ≡ n → at + n ≤ length m → put_mid at n m new ≡ put m at new
+put_part m zero n new e h = sym (put_front m new (rw (zero-add, ← e) at h) ∙ ap (λ (k : ℕ). new ++ drop k m) e)
+put_part [] (suc at) n new e h = absurd (not-suc-le-zero (rw suc-add at h))
+put_part (x ∷ m) (suc at) n new e h = ap (λ (r : List ℕ). x ∷ r) (put_part m at n new e (le_of_suc-le-suc (rw suc-add at h)))

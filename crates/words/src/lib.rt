@@ -26,14 +26,14 @@ pub fn is_complement(first: u8, second: u8) -> bool
 pub fn number2(high: u8, low: u8) -> u16
     ensures { result ≡ number (high ∷ low ∷ []) }
 {
-    (high as u16) * 256 + low as u16
+    u16::from_be_bytes([high, low])
 }
 
 // The number that four bytes write, high byte first.
 pub fn number4(a: u8, b: u8, c: u8, d: u8) -> u32
     ensures { result ≡ number (a ∷ b ∷ c ∷ d ∷ []) }
 {
-    (number2(a, b) as u32) * 65536 + number2(c, d) as u32
+    u32::from_be_bytes([a, b, c, d])
 }
 
 // The first of some bytes, of which a caller thereby knows that it is below 256.
@@ -48,7 +48,14 @@ pub fn first(bytes: &[u8]) -> u8
 pub fn least(a: usize, b: usize) -> usize
     ensures { result ≡ min a b }
 {
-    if a < b { a } else { b }
+    a.min(b)
+}
+
+// The XOR of a byte and of some bytes.
+pub fn xor(start: u8, bytes: &[u8]) -> u8
+    ensures { result ≡ xor_from start bytes.now }
+{
+    bytes.iter().fold(start, |sum, byte| sum ^ *byte)
 }
 
 // The XOR of a byte and the first n of some bytes.
@@ -56,13 +63,15 @@ pub fn xor_from(start: u8, bytes: &[u8], n: usize) -> u8
     requires { n ≤ length bytes.now }
     ensures { result ≡ xor_from start (take n bytes.now) }
 {
-    let mut sum = start;
-    let mut i = 0;
-    while i < n {
-        sum = sum ^ bytes[i];
-        i += 1;
-    }
-    sum
+    xor(start, &bytes[..n])
+}
+
+// Lays bytes over a memory in place of the old ones.
+pub fn lay(memory: &mut [u8], at: usize, bytes: &[u8])
+    requires { at + length bytes.now ≤ length memory.old }
+    ensures { memory.new ≡ put memory.old at bytes.now }
+{
+    memory[at..at + bytes.len()].copy_from_slice(bytes);
 }
 
 // Lays n bytes, from a place of theirs on, over a memory in place of the old ones.
@@ -71,10 +80,16 @@ pub fn copy(memory: &mut [u8], at: usize, bytes: &[u8], from: usize, n: usize)
     requires n_in_bounds_2 { from + n ≤ length bytes.now }
     ensures { memory.new ≡ put memory.old at (take n (drop from bytes.now)) }
 {
-    let mut i = 0;
-    while i < n {
-        memory[at + i] = bytes[from + i];
-        i += 1;
+    lay(memory, at, &bytes[from..from + n]);
+}
+
+// Lays bytes over a memory, each joined with the old one by AND.
+pub fn lay_by_and(memory: &mut [u8], at: usize, bytes: &[u8])
+    requires { at + length bytes.now ≤ length memory.old }
+    ensures { memory.new ≡ over bit_and memory.old at bytes.now }
+{
+    for (i, byte) in bytes.iter().enumerate() {
+        memory[at + i] &= *byte;
     }
 }
 
@@ -84,12 +99,7 @@ pub fn join_by_and(memory: &mut [u8], at: usize, bytes: &[u8], n: usize)
     requires n_in_bounds_2 { n ≤ length bytes.now }
     ensures { memory.new ≡ over bit_and memory.old at (take n bytes.now) }
 {
-    let mut i = 0;
-    while i < n {
-        let here = at + i;
-        memory[here] = memory[here] & bytes[i];
-        i += 1;
-    }
+    lay_by_and(memory, at, &bytes[..n]);
 }
 
 // Lays one byte n times over a memory.
@@ -97,9 +107,13 @@ pub fn fill(memory: &mut [u8], at: usize, n: usize, byte: u8)
     requires { at + n ≤ length memory.old }
     ensures { memory.new ≡ put memory.old at (replicate n byte) }
 {
-    let mut i = 0;
-    while i < n {
-        memory[at + i] = byte;
-        i += 1;
-    }
+    memory[at..at + n].fill(byte);
+}
+
+// Room for N bytes, all 0.
+pub fn zeros<const N: usize>() -> [u8; N]
+    ensures zeros { result ≡ replicate N 0 }
+    ensures length { length result ≡ N }
+{
+    [0; N]
 }

@@ -14,9 +14,9 @@ use Rattle.desk_passing.proofs.silent_line.Goals as goal
 
 pub bytes-count-requires : goal.bytes-count-requires
 bytes-count-requires c =
-    let f = c.frame_first-end.ensures (omega (arith, c.if-end-eq0.false)) in
+    let f = rw c.in_ok-end.was at c.frame_first.ensures in
     let t = c.args.text.now in
-    let n = c.frame_first-end.result in
+    let n = c.in_ok-end.end in
     let g = frame_good (behind_letter n t) f.frame in
     let e = data_part_lem t n f in (
       rw e at g.behind,
@@ -25,14 +25,14 @@ bytes-count-requires c =
 
 pub returns-then-silent : goal.returns-then-silent
 returns-then-silent c =
-    let f = c.frame_first-end.ensures (omega (arith, c.if-end-eq0.false)) in
+    let f = rw c.in_ok-end.was at c.frame_first.ensures in
     let t = c.args.text.now in
-    let n = c.frame_first-end.result in
+    let n = c.in_ok-end.end in
     let g = frame_good (behind_letter n t) f.frame in
     let e = data_part_lem t n f in
     let x = fields (drop 4 (behind_letter n t)) in
     let k : c.bytes-count.result ≡ length x = c.bytes-count.ensures.0 ∙ ap (λ (l : List ℕ). length (fields l)) (sym e) in
-    λ h. record {
+    record {
       first = f;
       silent = rw c.id-id.ensures at (c.silent_frame-silent.ensures (subst T (sym c.if-silent.true) tt));
       counted = k;

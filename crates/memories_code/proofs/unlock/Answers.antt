@@ -1,34 +1,42 @@
 -- Everything is filled where protection is on, and nothing is touched where it is off.
-use Rattle.std.proofs.Common.{rules}
-use native.Mathlib.Omega.{arith}
-use mathlib.Core.Path.{sym, ◌∙◌}
-use Rattle.board.specs.declared.Region.TheVariants.{Flash, Sram, Usd}
-use Rattle.memories.specs.Memories.{memories}
+use mathlib.Core.Path.{◌≡◌, sym, ap, ◌∙◌}
+use mathlib.Core.Bool.{Bool, true, false}
+use mathlib.Core.List.{List, []}
+use Prim.Native.Nat.{ℕ}
+use lib.Dec.{T}
+use lib.ListN.{length, replicate, set}
+use Rattle.board.specs.declared.Region.TheVariants.{Flash, Sram}
+use Rattle.board.specs.Usd.{protection_on}
+use Rattle.board.specs.View.{view_of}
+use Rattle.board.specs.declared.View.{View}
+use Rattle.memories.specs.Lent.{holds}
+use Rattle.memories.specs.Memories.{Memories, memories, proper}
 use Rattle.memories.specs.Effects.{erased_all, wiped, effect}
+use Rattle.memories.specs.declared.Change.TheVariants.{Unlock}
 use Rattle.memories.proofs.Memories.{proper_length}
 use Rattle.memories_code.proofs.unlock.Goals as goal
 
-pub protection_on-on-requires : goal.protection_on-on-requires
-protection_on-on-requires c =
-    proper_length (memories c.args.flash.now c.args.sram.now c.args.usd.now) c.requires Usd
+-- what a view says of protection
+abbrev locked : View → Bool
+locked v = v.locked
 
-pub bounds-usd-0 : goal.bounds-usd-0
-bounds-usd-0 c =
-    let l = proper_length (memories c.args.flash.now c.args.sram.now c.args.usd.now) c.requires Usd in
-    omega arith
-
-pub returns-then-on : goal.returns-then-on
+-- what is filled is what a board with protection on becomes
+wipes : (m : Memories) {flash sram : List ℕ} → T (proper m) → protection_on m.usd ≡ true
+    → flash ≡ replicate (length m.flash) 0xFF → sram ≡ replicate (length m.sram) 0
+    → memories flash sram (set m.usd 0 0xA5) ≡ effect Unlock [] m
 unfolding effect wiped erased_all
-returns-then-on c =
-    let m = memories c.args.flash.now c.args.sram.now c.args.usd.now in
-    rw (
-      sym c.protection_on-on.ensures ∙ c.if-on.true,
-      c.fill_all.ensures,
-      c.fill_all-then-on.ensures,
-      proper_length m c.requires Flash,
-      proper_length m c.requires Sram,
-    )
+wipes m t on f s = rw (on, f, s, proper_length m t Flash, proper_length m t Sram)
 
-pub returns-else-on : goal.returns-else-on
-unfolding effect wiped erased_all
-returns-else-on c = rw (sym c.protection_on-on.ensures ∙ c.if-on.false)
+-- and a board with protection off stays as it is
+stays : (m : Memories) → protection_on m.usd ≡ false → m ≡ effect Unlock [] m
+unfolding effect
+stays m off = rw off
+
+pub returns-then-on-clause-left : goal.returns-then-on-clause-left
+unfolding view_of
+returns-then-on-clause-left c =
+    wipes (holds c.args.lent.now) c.requires (sym (ap locked c.view-view.ensures) ∙ c.if-on.true) c.fill_all.ensures c.fill_all-then-on.ensures
+
+pub returns-else-on-clause-left : goal.returns-else-on-clause-left
+unfolding view_of
+returns-else-on-clause-left c = stays (holds c.args.lent.now) (sym (ap locked c.view-view.ensures) ∙ c.if-on.false)

@@ -1,4 +1,3 @@
-use Rattle.std.proofs.Common.{rules}
 use native.Mathlib.Omega.{arith}
 use mathlib.Core.Path.{◌≡◌, subst, ◌∙◌}
 use lib.Dec.{T}
@@ -10,7 +9,8 @@ use Rattle.words.specs.Lists.{part}
 use Rattle.words.proofs.Over.{put_front}
 use Rattle.words.proofs.Slices.{length_part}
 use Rattle.board.specs.declared.Region.TheVariants.{Flash}
-use Rattle.memories.specs.Memories.{memories, bytes_of}
+use Rattle.memories.specs.Lent.{holds}
+use Rattle.memories.specs.Memories.{bytes_of}
 use Rattle.memories.proofs.Memories.{proper_length}
 use Rattle.command.specs.Says.{says, fixed}
 use Rattle.command.proofs.Says.{data_there, crc_there}
@@ -25,7 +25,7 @@ say_data-requires c =
 pub say_sum-requires : goal.say_sum-requires
 say_sum-requires c =
     let h = crc_there c.args.reply c.requires.2 _ _ c.in-Crc.is in
-    let l = proper_length (memories c.args.flash.now c.args.sram.now c.args.usd.now) c.requires.1 Flash in
+    let l = proper_length (holds c.args.lent.now) c.requires.1 Flash in
     (omega arith, omega arith)
 
 pub copy-requires : goal.copy-requires
@@ -37,7 +37,7 @@ returns-in-Data c =
     let g = c.in-Data.region in
     let at = c.in-Data.at in
     let x = c.in-Data.x in
-    let m = memories c.args.flash.now c.args.sram.now c.args.usd.now in
+    let m = holds c.args.lent.now in
     let h = data_there c.args.reply c.requires.2 g at x c.in-Data.is in
     let l : length (part at x (bytes_of g m)) ≡ x = length_part (bytes_of g m) at x (rw (proper_length m c.requires.1 g) h.1) in (
       λ list t. rw (c.in-Data.is, append-nil (part at x (bytes_of g m))) (record {

@@ -1,26 +1,25 @@
 -- By the region, whose bytes are there.
-use Rattle.std.proofs.Common.{rules}
 use native.Mathlib.Omega.{arith}
 use Rattle.board.specs.declared.Region.TheVariants.{Flash, Sram, Usd}
-use Rattle.memories.specs.Memories.{memories}
+use Rattle.memories.specs.Lent.{holds}
 use Rattle.memories.proofs.Memories.{proper_length}
 use Rattle.reply.proofs.say_data.Goals as goal
 
 pub say_bytes-requires : goal.say_bytes-requires
 say_bytes-requires c =
-    let l = proper_length (memories c.args.flash.now c.args.sram.now c.args.usd.now) c.requires.0 Flash in
+    let l = proper_length (holds c.args.lent.now) c.requires.0 Flash in
     let b = rw c.in-Flash.is at c.requires.2 in
     (omega arith, omega arith, omega arith)
 
 pub say_bytes-requires-in-Sram : goal.say_bytes-requires-in-Sram
 say_bytes-requires-in-Sram c =
-    let l = proper_length (memories c.args.flash.now c.args.sram.now c.args.usd.now) c.requires.0 Sram in
+    let l = proper_length (holds c.args.lent.now) c.requires.0 Sram in
     let b = rw c.in-Sram.is at c.requires.2 in
     (omega arith, omega arith, omega arith)
 
 pub say_bytes-requires-in-Usd : goal.say_bytes-requires-in-Usd
 say_bytes-requires-in-Usd c =
-    let l = proper_length (memories c.args.flash.now c.args.sram.now c.args.usd.now) c.requires.0 Usd in
+    let l = proper_length (holds c.args.lent.now) c.requires.0 Usd in
     let b = rw c.in-Usd.is at c.requires.2 in
     (omega arith, omega arith, omega arith)
 

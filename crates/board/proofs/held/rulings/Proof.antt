@@ -1,13 +1,13 @@
 -- Each ruling is computed.
 use mathlib.Core.Path.{refl}
-use Rattle.board.specs.Regions.{place_of}
+use Rattle.board.specs.Regions.{regions, place_of}
 use Rattle.board.specs.View.{view_of}
 use Rattle.board.specs.Rulings.{Rulings}
 use Rattle.board.proofs.held.rulings.Statement.{statement}
 use Rattle.board.proofs.held.rulings.Tie as tie
 
 ruled : Rulings
-unfolding place_of view_of
+unfolding place_of regions view_of
 ruled = record {
   flash = refl;
   sram = refl;

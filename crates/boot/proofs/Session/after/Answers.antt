@@ -1,5 +1,4 @@
 -- By what becomes of the session.
-use Rattle.std.proofs.Common.{rules}
 use Rattle.boot.specs.Session.{after}
 use Rattle.boot.proofs.Session.after.Goals as goal
 

@@ -1,5 +1,4 @@
 -- A connected session hears the byte, with the staged bytes of the session with the byte taken; another hears only the call to connect.
-use Rattle.std.proofs.Common.{rules}
 use native.Mathlib.Omega.{arith}
 use Rattle.command.specs.Decision.{if◌gives◌else◌}
 use mathlib.Core.Path.{◌≡◌, ap}

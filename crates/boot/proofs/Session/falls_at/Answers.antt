@@ -1,5 +1,4 @@
 -- On UART the step's bytes come behind those before it, on CAN the frame behind what was gathered; both are few in a sound session.
-use Rattle.std.proofs.Common.{rules}
 use native.Mathlib.Omega.{arith}
 use Rattle.uart.proofs.Steps.{before_few}
 use Rattle.boot.proofs.Sound.{sound_taken, sound_expected}

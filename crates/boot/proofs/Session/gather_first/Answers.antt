@@ -1,5 +1,4 @@
 -- None gathered leaves the session, and others are gathered at once.
-use Rattle.std.proofs.Common.{rules}
 use native.Mathlib.Omega.{arith}
 use mathlib.Core.Path.{sym}
 use lib.Seq.{length-take-le}

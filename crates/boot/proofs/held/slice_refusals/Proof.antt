@@ -1,5 +1,5 @@
 -- A slice that is not refused gives 0, and one that is leaves what it was given.
-use mathlib.Core.Path.{◌≡◌, refl}
+use mathlib.Core.Path.{◌≡◌}
 use mathlib.Core.Bool.{Bool, true, false}
 use lib.ListN.{length}
 use Rattle.std.specs.Prelude.{if◌then◌else◌}

@@ -1,6 +1,6 @@
 -- Each decision is computed.
 use mathlib.Core.Path.{refl}
-use Rattle.board.specs.Regions.{place_of}
+use Rattle.board.specs.Regions.{regions, place_of}
 use Rattle.board.specs.View.{view_of, write_protected}
 use Rattle.command.specs.Decision.{if◌gives◌else◌, judged}
 use Rattle.rules.specs.Rules as Q
@@ -11,7 +11,7 @@ use Rattle.can.proofs.held.rulings.Statement.{statement}
 use Rattle.can.proofs.held.rulings.Tie as tie
 
 decided : Ruled rulings
-unfolding place_of view_of write_protected if◌gives◌else◌ judged Q.unless_protected Q.read_at Q.reading Q.write_verdict_at Q.write_verdict Q.write_at Q.writing Q.selector_of Q.erase_verdict Q.erasing Q.erase_all_verdict Q.protect_verdict Q.protecting Q.jumping Q.sum_at Q.summing C.erased_or_not C.selected C.obeyed C.commanded C.gathering C.unless_extra C.decided C.heard
+unfolding regions place_of view_of write_protected if◌gives◌else◌ judged Q.unless_protected Q.read_at Q.reading Q.write_verdict_at Q.write_verdict Q.write_at Q.writing Q.selector_of Q.erase_verdict Q.erasing Q.erase_all_verdict Q.protect_verdict Q.protecting Q.jumping Q.sum_at Q.summing C.erased_or_not C.selected C.obeyed C.commanded C.gathering C.unless_extra C.decided C.heard
 decided = refl
 
 ruled : Rulings

@@ -18,7 +18,7 @@ use Rattle.desk_answers.proofs.held.example_why.Statement.{statement}
 use Rattle.desk_answers.proofs.held.example_why.Tie as tie
 
 example-why : ExampleWhy
-unfolding kind_of made makes answer_by answer BK.call BK.perform BK.sent BK.decide BK.cause_for BC.cause_of BD.connected BD.decide_byte BD.decide_frame BS.after BS.sound UC.obeyed UC.commanded UC.addressed UC.kept_if UC.complete UC.heard S.says Q.unless_protected D.if◌gives◌else◌ E.effect BS.falls_at W.view_of W.write_protected R.place_of
+unfolding kind_of made makes answer_by answer BK.call BK.perform BK.sent BK.decide BK.cause_for BC.cause_of BD.connected BD.decide_byte BD.decide_frame BS.after BS.sound UC.obeyed UC.commanded UC.addressed UC.kept_if UC.complete UC.heard S.says Q.unless_protected D.if◌gives◌else◌ E.effect BS.falls_at W.view_of W.write_protected R.regions R.place_of
 example-why = refl
 
 pub example_why_spec : {M : Type 1} → statement M

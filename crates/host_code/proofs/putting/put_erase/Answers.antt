@@ -1,18 +1,20 @@
 -- The numbers stand behind the command, and the checksum behind them.
-use Rattle.std.proofs.Common.{arith, ◌+◌, ◌-◌, ◌*◌, ◌/◌}
+use Rattle.std.proofs.Common.{arith, ◌+◌, ◌-◌, ◌*◌, ◌/◌, ◌∙◌}
+use Rattle.words.proofs.Over.{put_front}
+use Rattle.numbers.proofs.Numbers.{low_byte}
+use Rattle.host.specs.Ranges.{erase_of}
 use Rattle.host_code.proofs.Behind.{length_erase, erase_in_room}
 use Rattle.host_code.proofs.putting.put_erase.Goals as goal
 
-pub returns-clause-count : goal.returns-clause-count
-returns-clause-count c =
+pub returns : goal.returns
+returns c =
     let k = c.args.offset / 1024 in
     let d = (c.args.offset + c.args.count - 1) / 1024 - k in
-    rw (length_erase k (d + 1), c.at-last.ensures, c.at-first.ensures)
-
-pub returns-clause-made : goal.returns-clause-made
-returns-clause-made c =
-    let k = c.args.offset / 1024 in
-    let d = (c.args.offset + c.args.count - 1) / 1024 - k in
-    let e = rw (c.copy.ensures, c.two-less.ensures, c.at-last.ensures, c.at-first.ensures) at c.put_numbers.ensures in
-    rw (c.copy-2.ensures, c.xor_from.ensures, c.at-last.ensures, c.at-first.ensures)
-    (erase_in_room c.args.room.now k d (4 + 2 * (d + 1) - 2) (omega arith) (omega arith) c.put_numbers.new.room e)
+    let e = rw (c.lay.ensures, c.to_be_bytes-less.ensures, c.at-last.ensures, c.at-first.ensures, ← low_byte d) at c.put_numbers.ensures in
+    let l = length_erase k (d + 1) in
+    rw (c.lay-2.ensures, c.xor-sum.ensures, c.from.ensures, c.at-last.ensures, c.at-first.ensures)
+    (record {
+      count = omega arith;
+      room = erase_in_room c.args.room.now k d (4 + 2 * (d + 1) - 2) (omega arith) (omega arith) c.put_numbers.new.room e
+          ∙ put_front c.args.room.now (erase_of c.args.offset c.args.count) (omega arith);
+    })

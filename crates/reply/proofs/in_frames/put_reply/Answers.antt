@@ -1,8 +1,6 @@
 -- No byte gives no frame; else the first is written by itself, and the rest behind it.
-use Rattle.std.proofs.Common.{rules}
 use native.Mathlib.Omega.{arith}
 use mathlib.Core.Path.{sym}
-use Prim.Native.Nat.{◌-◌}
 use lib.ListN.{length}
 use Rattle.words.proofs.Tests.{past}
 use lib.Seq.{length-take-le}

@@ -6,7 +6,7 @@ use mathlib.Core.List.{List}
 use Prim.Native.Nat.{ℕ}
 use lib.ListN.{length, take, replicate}
 use Rattle.words.specs.Lists.{join}
-use Rattle.memories.specs.Memories.{memories}
+use Rattle.memories.specs.Lent.{holds}
 use Rattle.command.specs.Says.{says, Said}
 use Rattle.can.specs.Conversation.{command_bytes}
 use Rattle.reply.proofs.Alone.{reply_alone, alone_room, said_taken}
@@ -15,11 +15,11 @@ use Rattle.reply.proofs.in_frames.say.Tie as tie
 
 -- the start of the call in which the reply was said, the reply's bytes, and the room that they were said into
 abbrev start : tie.After-say-n → tie.Start
-start c = c.before.before.before.before.before.before.before
+start c = c.before.before.before.before
 
 abbrev reply : tie.After-say-n → List ℕ
 reply c =
-    join (says command_bytes (start c).args.reply (memories (start c).args.flash.now (start c).args.sram.now (start c).args.usd.now))
+    join (says command_bytes (start c).args.reply (holds (start c).args.lent.now))
 
 abbrev room : tie.After-say-n → List ℕ
 room c = c.say-n.new.buffer
@@ -54,7 +54,7 @@ returns c =
     let after-piece-of = after-put-reply.before.before in
     let after-say = after-piece-of.before.before.before in
     let args = (start after-say).args in
-    rw (reply_alone args.id command_bytes args.reply (memories args.flash.now args.sram.now args.usd.now))
+    rw (reply_alone args.id command_bytes args.reply (holds args.lent.now))
     (rw (front after-say, after-piece-of.piece_of.ensures) at after-put-reply.put_reply.ensures)
 
 pub say_spec : {M : Type 1} → statement M
