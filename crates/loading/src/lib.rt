@@ -11,7 +11,7 @@ ghost use Rattle.std.specs.Prelude.{◌≡◌, IfOk, length};
 ghost use Rattle.board.specs.Board.{flash};
 ghost use Rattle.records.specs.Ends.{lines_of};
 ghost use Rattle.loading.specs.Promise.{Loads};
-ghost use Rattle.loading.specs.Loads.{answer_no, untouched, all_touched};
+ghost use Rattle.loading.specs.Loads.{answer_no, line_no, untouched, all_touched};
 
 use board::Board;
 
@@ -34,20 +34,23 @@ pub struct Refused {
 }
 
 // The number of what is answered.
-pub fn number(answer: Result<(), Cause>) -> u8
+pub fn number(answer: Result<(), Refused>) -> u8
     ensures { result ≡ answer_no answer }
 {
     match answer {
         Ok(()) => 0,
-        Err(cause) => cause as u8,
+        Err(refused) => refused.cause as u8,
     }
 }
 
-// Room for an image, of which only its length counts.
-fn room() -> [u8; Board::FLASH_BYTES]
-    ensures { flash.bytes ≡ length result }
+// The number of the line that has the cause, from 1; 0 where no line has it.
+pub fn line_number(answer: Result<(), Refused>) -> usize
+    ensures { result ≡ line_no answer }
 {
-    [0; Board::FLASH_BYTES]
+    match answer {
+        Ok(()) => 0,
+        Err(refused) => refused.line.unwrap_or(0),
+    }
 }
 
 // The marks before any line: none.
@@ -75,7 +78,7 @@ pub fn load_marked(
             line: None,
         });
     }
-    let mut copied = room();
+    let mut copied = words::zeros::<{ Board::FLASH_BYTES }>();
     copied.copy_from_slice(image);
     folding::fold(text, shift, touched, &mut copied)?;
     image.copy_from_slice(&copied);
