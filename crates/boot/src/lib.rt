@@ -38,6 +38,7 @@ pub struct Session {
 }
 
 // What a call hands back: the cause's number, the length of the reply, the reason of a NACK in it and the place where it fell, the next session.
+// Kept: numbers, as C has them, and CauseNumbers, ReasonsAndPlaces and SlicesAreRuns speak of them.
 #[derive(Clone, Copy)]
 pub struct Taken {
     pub number: u8,

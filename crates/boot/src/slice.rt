@@ -83,6 +83,7 @@ impl Session {
         // Nothing is taken yet.
         let mut done = self.unanswered(Ok(()));
         let mut count = 0;
+        // Kept: a turn takes several bytes; `while let [_, ..] = rest` would need count beside rest, which is handed back, and a split_at more.
         while count < n {
             let here = done.session;
             let at = done.length;
