@@ -4,7 +4,7 @@
 pub mod in_bytes;
 pub mod in_frames;
 
-ghost use Rattle.std.specs.Prelude.{◌≡◌, List, ◌∷◌, ℕ, ◌+◌, ◌≤◌, T, length, take};
+ghost use Rattle.std.specs.Prelude.{◌≡◌, List, ◌∷◌, ℕ, ◌+◌, ◌≤◌, T, length};
 ghost use Rattle.words.specs.Bytes.{four_bytes};
 ghost use Rattle.words.specs.Lists.{join, part};
 ghost use Rattle.words.specs.Over.{put};
@@ -27,9 +27,6 @@ pub const NACK: u8 = 0x1F;
 
 // The byte before the product ID.
 const DEVICE_TOLD: u8 = 0x04;
-
-// The bytes of a reply that is a checksum.
-const SUM_LENGTH: usize = 1 + numbers::SHORT;
 
 // The bytes of the longest fixed reply, that to 0x00 on CAN.
 pub const LONGEST: usize = 18;
@@ -96,9 +93,7 @@ fn say_crc(value: u32, buffer: &mut [u8]) -> usize
     requires { reply_room ≤ length buffer.old }
     ensures { (result ≡ length (ack_byte ∷ four_bytes value)) × (buffer.new ≡ put buffer.old 0 (ack_byte ∷ four_bytes value)) }
 {
-    buffer[0] = ACK;
-    numbers::put_short(buffer, 1, value);
-    SUM_LENGTH
+    say_bytes(&value.to_be_bytes(), buffer)
 }
 
 // Writes x bytes of a region behind ACK.
