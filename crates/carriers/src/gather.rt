@@ -11,7 +11,7 @@ pub fn stage(staged: &mut [u8; STAGED], at: usize, new: &[u8], n: usize)
     requires { (at + n ≤ staged_bytes) × (n ≤ length new.now) }
     ensures { staged.new ≡ put staged.old at (take n new.now) }
 {
-    words::copy(staged, at, new, 0, n);
+    words::lay(staged, at, &new[..n]);
 }
 
 // Stages new bytes as far as a step expects them, whatever its address, and tells how many it has then taken.
@@ -21,6 +21,6 @@ pub fn gather(staged: &mut [u8; STAGED], taken: usize, expected: usize, new: &[u
         × (staged.new ≡ staged_with (progress_at taken expected 0 staged.old) new.now) }
 {
     let fit = (expected - taken).min(new.len());
-    stage(staged, taken, new, fit);
+    words::lay(staged, taken, &new[..fit]);
     taken + fit
 }

@@ -2,8 +2,7 @@
 use mathlib.Core.Path.{◌≡◌, refl, ap, ◌∙◌}
 use mathlib.Core.List.{List, [], ◌∷◌, ◌++◌}
 use Prim.Native.Nat.{ℕ, ◌≤◌}
-use lib.ListN.{length, take}
-use lib.Seq.{take-length}
+use lib.ListN.{length}
 use Rattle.words.specs.Lists.{join, singly}
 use Rattle.words.specs.Over.{put}
 use Rattle.words.proofs.Over.{put_front}
@@ -19,9 +18,9 @@ commands_joined list = ap (λ (r : List ℕ). ack_byte ∷ r) (joined list)
     joined (b ∷ l) = ap (λ (r : List ℕ). b ∷ r) (joined l)
 
 -- bytes that were copied to the front of a buffer are said
-pub fixed_said : (bytes before after : List ℕ) → length bytes ≤ length before → after ≡ put before 0 (take (length bytes) bytes)
+pub fixed_said : (bytes before after : List ℕ) → length bytes ≤ length before → after ≡ put before 0 bytes
     → Said bytes (length bytes) before after
 fixed_said bytes before after h p = record {
   count = refl;
-  buffer = p ∙ ap (λ (b : List ℕ). put before 0 b) (take-length bytes) ∙ put_front before bytes h;
+  buffer = p ∙ put_front before bytes h;
 }

@@ -4,7 +4,7 @@
 pub mod in_bytes;
 pub mod in_frames;
 
-ghost use Rattle.std.specs.Prelude.{◌≡◌, List, ◌∷◌, ℕ, ◌+◌, ◌≤◌, T, length, take};
+ghost use Rattle.std.specs.Prelude.{◌≡◌, List, ◌∷◌, ℕ, ◌+◌, ◌≤◌, T, length};
 ghost use Rattle.words.specs.Bytes.{four_bytes};
 ghost use Rattle.words.specs.Lists.{join, part};
 ghost use Rattle.words.specs.Over.{put};
@@ -27,9 +27,6 @@ pub const NACK: u8 = 0x1F;
 
 // The byte before the product ID.
 const DEVICE_TOLD: u8 = 0x04;
-
-// The bytes of a reply that is a checksum.
-const SUM_LENGTH: usize = 1 + numbers::SHORT;
 
 // The bytes of the longest fixed reply, that to 0x00 on CAN.
 pub const LONGEST: usize = 18;
@@ -81,14 +78,14 @@ pub fn listing(count: u8, first: u8, second: u8) -> [u8; LONGEST]
     ]
 }
 
-// Writes ACK and x bytes of a memory.
-fn say_bytes(memory: &[u8], at: usize, x: usize, buffer: &mut [u8]) -> usize
-    requires { (x ≤ largest_count) × (at + x ≤ length memory.now) × (reply_room ≤ length buffer.old) }
-    ensures { (result ≡ x + 1) × (buffer.new ≡ put buffer.old 0 (ack_byte ∷ part at x memory.now)) }
+// Writes ACK and bytes.
+fn say_bytes(bytes: &[u8], buffer: &mut [u8]) -> usize
+    requires { (length bytes.now ≤ largest_count) × (reply_room ≤ length buffer.old) }
+    ensures { (result ≡ length bytes.now + 1) × (buffer.new ≡ put buffer.old 0 (ack_byte ∷ bytes.now)) }
 {
     buffer[0] = ACK;
-    words::copy(buffer, 1, memory, at, x);
-    x + 1
+    words::lay(buffer, 1, bytes);
+    bytes.len() + 1
 }
 
 // Writes ACK and the four bytes of a checksum, high first.
@@ -96,9 +93,7 @@ fn say_crc(value: u32, buffer: &mut [u8]) -> usize
     requires { reply_room ≤ length buffer.old }
     ensures { (result ≡ length (ack_byte ∷ four_bytes value)) × (buffer.new ≡ put buffer.old 0 (ack_byte ∷ four_bytes value)) }
 {
-    buffer[0] = ACK;
-    numbers::put_short(buffer, 1, value);
-    SUM_LENGTH
+    say_bytes(&value.to_be_bytes(), buffer)
 }
 
 // Writes x bytes of a region behind ACK.
@@ -107,11 +102,12 @@ fn say_data(region: Region, at: usize, x: usize, lent: &Lent<'_>, buffer: &mut [
         × (reply_room ≤ length buffer.old) }
     ensures { (result ≡ x + 1) × (buffer.new ≡ put buffer.old 0 (ack_byte ∷ part at x (bytes_of region (holds lent.now)))) }
 {
-    match region {
-        Region::Flash => say_bytes(lent.flash, at, x, buffer),
-        Region::Sram => say_bytes(lent.sram, at, x, buffer),
-        Region::Usd => say_bytes(lent.usd, at, x, buffer),
-    }
+    let memory: &[u8] = match region {
+        Region::Flash => lent.flash,
+        Region::Sram => lent.sram,
+        Region::Usd => lent.usd,
+    };
+    say_bytes(&memory[at..at + x], buffer)
 }
 
 // The bytes of what is told whatever the memories hold, given what the carrier tells of its commands.
@@ -132,14 +128,13 @@ fn fixed_bytes(commands: &[u8], told: FixedReply) -> &[u8]
     }
 }
 
-// Writes the checksum of n bytes of flash behind ACK.
-fn say_sum(flash: &[u8], at: usize, n: usize, buffer: &mut [u8]) -> usize
-    requires { (at + n ≤ length flash.now) × (reply_room ≤ length buffer.old) }
-    ensures { (result ≡ length (ack_byte ∷ four_bytes (word_crc (part at n flash.now))))
-        × (buffer.new ≡ put buffer.old 0 (ack_byte ∷ four_bytes (word_crc (part at n flash.now)))) }
+// Writes the checksum of bytes behind ACK.
+fn say_sum(bytes: &[u8], buffer: &mut [u8]) -> usize
+    requires { reply_room ≤ length buffer.old }
+    ensures { (result ≡ length (ack_byte ∷ four_bytes (word_crc bytes.now)))
+        × (buffer.new ≡ put buffer.old 0 (ack_byte ∷ four_bytes (word_crc bytes.now))) }
 {
-    let end = at + n;
-    say_crc(word_crc::crc(&flash[at..end]), buffer)
+    say_crc(word_crc::crc(bytes), buffer)
 }
 
 // Writes the bytes of a reply that can be given, message behind message, and tells how many; what a carrier tells of its commands is given.
@@ -150,10 +145,10 @@ pub fn say(commands: &[u8], reply: Reply, lent: &Lent<'_>, buffer: &mut [u8]) ->
 {
     match reply {
         Reply::Data(region, at, x) => say_data(region, at, x, lent, buffer),
-        Reply::Crc(at, n) => say_sum(lent.flash, at, n, buffer),
+        Reply::Crc(at, n) => say_sum(&lent.flash[at..at + n], buffer),
         Reply::Fixed(told) => {
             let bytes = fixed_bytes(commands, told);
-            words::copy(buffer, 0, bytes, 0, bytes.len());
+            words::lay(buffer, 0, bytes);
             bytes.len()
         }
     }

@@ -154,7 +154,7 @@ fn crc_ends(address: u32, bytes: &[u8]) -> Decision
     ensures { result ≡ crc_ends address bytes.now }
 {
     command::accept_if(
-        bytes[2] == words::xor_from(CRC_CHECK, bytes, 2),
+        bytes[2] == words::xor(CRC_CHECK, &bytes[..2]),
         rules_code::sum::sum(Address(address), sent::long_count(bytes[0], bytes[1])),
         Why::BadChecksum,
     )

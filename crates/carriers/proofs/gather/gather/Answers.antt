@@ -7,4 +7,4 @@ pub returns : goal.returns
 returns c =
     let p = progress_at c.args.taken c.args.expected 0 c.args.staged.now in
     let f = so_many_fit p c.args.new.now c.min-fit.result c.min-fit.ensures in
-    (rw f.0, rw (c.stage.ensures, f.1))
+    (rw f.0, rw (c.lay.ensures, f.1))
