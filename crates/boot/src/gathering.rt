@@ -12,7 +12,7 @@ pub fn silent_bytes(session: Session, n: usize, ready: bool) -> usize
 {
     let gathers = ready & session.on(Carrier::Uart) & session.sound();
     if gathers {
-        words::least(n, session.expected - session.taken - 1)
+        n.min(session.expected - session.taken - 1)
     } else {
         0
     }

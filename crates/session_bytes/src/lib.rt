@@ -40,8 +40,8 @@ fn staged_in(lent: &[u8]) -> [u8; memories::STAGED]
     requires { length lent.now ≡ session_length }
     ensures { result ≡ part staged_place staged_bytes lent.now }
 {
-    let mut staged = [0u8; memories::STAGED];
-    words::copy(&mut staged, 0, lent, STAGED, memories::STAGED);
+    let mut staged = memories::none_staged();
+    staged.copy_from_slice(&lent[STAGED..LENGTH]);
     staged
 }
 
@@ -92,7 +92,7 @@ pub fn write(session: Session, lent: &mut [u8])
     numbers::put_long(lent, EXPECTED, session.expected);
     numbers::put_short(lent, ADDRESS, session.address);
     lent[SPEED] = session.speed;
-    words::copy(lent, STAGED, &session.staged, 0, memories::STAGED);
+    words::lay(lent, STAGED, &session.staged);
 }
 
 // Tells the number of a call, and hands its session on where it was accepted.

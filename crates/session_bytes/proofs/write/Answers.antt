@@ -1,5 +1,4 @@
 -- The parts are stored one behind the other, from the first byte to the last.
-use Rattle.std.proofs.Common.{rules}
 use native.Mathlib.Omega.{arith}
 use lib.ListN.{length-set}
 use Rattle.session_bytes.proofs.Sessions.{all_stored, read_back}
@@ -24,22 +23,21 @@ bounds-lent-22 c =
       simp length-set at c.put_long.auto.memory,
     )
 
-pub copy-requires : goal.copy-requires
-copy-requires c = record {
-  n_in_bounds = simp length-set (omega (
-    arith,
-    c.put_short.auto.memory,
-    c.put_long-2.auto.memory,
-    simp length-set at c.put_long.auto.memory,
-  ));
-  n_in_bounds_2 = omega (arith, c.copy-arg-3-1.given);
-}
+pub lay-requires : goal.lay-requires
+lay-requires c =
+    simp length-set (omega (
+      arith,
+      c.put_short.auto.memory,
+      c.put_long-2.auto.memory,
+      simp length-set at c.put_long.auto.memory,
+      c.lay-arg-3-1.given,
+    ))
 
 pub shape_of-lent : goal.shape_of-lent
 shape_of-lent c =
     omega (
       arith,
-      simp length-set at c.copy.auto.memory,
+      simp length-set at c.lay.auto.memory,
       c.put_short.auto.memory,
       c.put_long-2.auto.memory,
       simp length-set at c.put_long.auto.memory,
@@ -48,11 +46,11 @@ shape_of-lent c =
 pub returns : goal.returns
 returns c = (
   rw (
-    c.copy.ensures,
+    c.lay.ensures,
     c.put_short.ensures.0,
     c.put_long-2.ensures.0,
     c.put_long.ensures.0,
-  ) (all_stored c.args.lent.now c.args.session c.requires (omega (arith, c.copy-arg-3-1.given))),
+  ) (all_stored c.args.lent.now c.args.session c.requires (omega (arith, c.lay-arg-3-1.given))),
   read_back c.args.session c.put_long.ensures.1 c.put_long-2.ensures.1
-      c.put_short.ensures.1 (omega (arith, c.copy-arg-3-1.given)),
+      c.put_short.ensures.1 (omega (arith, c.lay-arg-3-1.given)),
 )
