@@ -142,6 +142,7 @@ fn is_short(text: &[u8], number: usize) -> bool
 {
     let mut left = number;
     let mut at = 0;
+    // Kept: text.split(|c| *c == LINE_FEED) gives one line more behind a last LF, and leaves the CR in a line; line_at gives the lines of R9.
     while at < text.len() {
         let span = ends::line_at(text, at);
         let here = left <= 1;
