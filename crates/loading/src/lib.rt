@@ -33,12 +33,15 @@ pub struct Refused {
     pub line: Option<usize>,
 }
 
+// The number of a file that is accepted.
+const ACCEPTED: u8 = 0;
+
 // The number of what is answered.
 pub fn number(answer: Result<(), Refused>) -> u8
     ensures { result ≡ answer_no answer }
 {
     match answer {
-        Ok(()) => 0,
+        Ok(()) => ACCEPTED,
         Err(refused) => refused.cause as u8,
     }
 }
