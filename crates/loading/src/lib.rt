@@ -7,8 +7,7 @@ pub mod judging;
 pub mod laying;
 pub mod placing;
 
-ghost use Rattle.std.specs.Prelude.{◌≡◌, IfOk, length};
-ghost use Rattle.board.specs.Board.{flash};
+ghost use Rattle.std.specs.Prelude.{◌≡◌, IfOk};
 ghost use Rattle.records.specs.Ends.{lines_of};
 ghost use Rattle.loading.specs.Promise.{Loads};
 ghost use Rattle.loading.specs.Loads.{answer_no, untouched, all_touched};
@@ -43,18 +42,12 @@ pub fn number(answer: Result<(), Cause>) -> u8
     }
 }
 
-// Room for an image, of which only its length counts.
-fn room() -> [u8; Board::FLASH_BYTES]
-    ensures { flash.bytes ≡ length result }
-{
-    [0; Board::FLASH_BYTES]
-}
-
 // The marks before any line: none.
+#[tactic(auto, unfolding(crate::specs::Loads::untouched))]
 pub fn no_marks() -> [u8; Board::FLASH_BYTES]
     ensures { result ≡ untouched }
 {
-    [0; Board::FLASH_BYTES]
+    words::zeros()
 }
 
 // Loads the S-records of a text into an image, a shift added to each address, and marks the bytes that it loads.
@@ -75,7 +68,7 @@ pub fn load_marked(
             line: None,
         });
     }
-    let mut copied = room();
+    let mut copied: [u8; Board::FLASH_BYTES] = words::zeros();
     copied.copy_from_slice(image);
     folding::fold(text, shift, touched, &mut copied)?;
     image.copy_from_slice(&copied);
