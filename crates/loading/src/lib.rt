@@ -7,8 +7,7 @@ pub mod judging;
 pub mod laying;
 pub mod placing;
 
-ghost use Rattle.std.specs.Prelude.{◌≡◌, IfOk, length};
-ghost use Rattle.board.specs.Board.{flash};
+ghost use Rattle.std.specs.Prelude.{◌≡◌, IfOk};
 ghost use Rattle.records.specs.Ends.{lines_of};
 ghost use Rattle.loading.specs.Promise.{Loads};
 ghost use Rattle.loading.specs.Loads.{answer_no, line_no, untouched, all_touched};
@@ -57,10 +56,11 @@ pub fn line_number(answer: Result<(), Refused>) -> usize
 }
 
 // The marks before any line: none.
+#[tactic(auto, unfolding(crate::specs::Loads::untouched))]
 pub fn no_marks() -> [u8; Board::FLASH_BYTES]
     ensures { result ≡ untouched }
 {
-    [0; Board::FLASH_BYTES]
+    words::zeros()
 }
 
 // Loads the S-records of a text into an image, a shift added to each address, and marks the bytes that it loads.

@@ -46,6 +46,7 @@ fn staged_in(lent: &[u8]) -> [u8; memories::STAGED]
 }
 
 // The session whose bytes these are.
+#[tactic(auto, unfolding(crate::specs::Sessions::held_in))]
 fn held_in(lent: &[u8]) -> Session
     requires { length lent.now ≡ session_length }
     ensures { result ≡ held_in lent.now }
@@ -71,6 +72,7 @@ fn no_session() -> Session
 }
 
 // The session that a slice holds.
+#[tactic(auto, unfolding(crate::specs::Sessions::session_in))]
 pub fn read(lent: &[u8]) -> Session
     ensures { result ≡ session_in lent.now }
 {
