@@ -14,6 +14,7 @@ use crate::{ACCEPTED, Cause, Session, Taken};
 use carriers::Carrier;
 use command::Decision;
 use command::reason::NO_REASON;
+use frames::Counted;
 use memories::Lent;
 
 impl Session {
@@ -90,7 +91,11 @@ impl Session {
         ensures { result ≡ bears self id }
     {
         let here = self.on(Carrier::Can);
-        if here { can::bears(self.step, id) } else { id }
+        if here {
+            can::bears(can::Step::of(self.step), id)
+        } else {
+            id
+        }
     }
 
     // An accepted call tells how long its reply is, the reason and the place of a NACK in it, and hands back the session that follows.
@@ -138,7 +143,7 @@ impl Session {
         let id = frames::id(frame);
         let carried = frames::carried(frame);
         let taken = self.gather(carried);
-        let decision = self.decide_frame(id, carried, taken, lent.view());
+        let decision = self.decide_frame(Counted { id, carried }, taken, lent.view());
         let reply = decision.reply;
         let change = decision.change;
         let length = reply::in_frames::say(reply, self.bears(id), lent, buffer);

@@ -7,6 +7,7 @@ ghost use Rattle.can.specs.Conversation.{dlc_fits, erased_or_not, selected, read
 use board::{Sector, View};
 use can::{LARGEST_SPEED, Step};
 use command::{Command, Decision, FixedReply, Next, Why, code};
+use frames::Counted;
 use memories::Change;
 use rules::Selector;
 use rules_code::{at_once, sent};
@@ -189,8 +190,8 @@ fn commanded(view: View, carried: &[u8], found: Option<Command>) -> Decision
 }
 
 // A command frame.
-pub fn command_frame(view: View, id: u16, carried: &[u8]) -> Decision
-    ensures { result ≡ commanded view carried.now (look_up can_commands id) }
+pub fn command_frame(view: View, frame: Counted<'_>) -> Decision
+    ensures { result ≡ commanded view frame.entry.carried.now (look_up can_commands frame.entry.id) }
 {
-    commanded(view, carried, look_up(id))
+    commanded(view, frame.carried, look_up(frame.id))
 }

@@ -22,6 +22,13 @@ const DLC_PLACE: usize = 2;
 // The largest ID.
 const LARGEST_ID: u16 = 0x7FF;
 
+// A frame without the data bytes that do not count.
+#[derive(Clone, Copy)]
+pub struct Counted<'a> {
+    pub id: u16,
+    pub carried: &'a [u8],
+}
+
 // The ID of a frame.
 pub fn id(frame: &[u8]) -> u16
     requires { head_bytes ≤ length frame.now }
