@@ -137,7 +137,7 @@ fn is_short_line(line: &[u8]) -> bool
 }
 
 // Whether the line of a number is an S1 or an S2 record.
-fn is_short(text: &[u8], number: usize) -> bool
+pub fn is_short(text: &[u8], number: usize) -> bool
     ensures { result ≡ is_short (line_numbered number text.now) }
 {
     let mut left = number;
