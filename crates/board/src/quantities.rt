@@ -14,7 +14,7 @@ impl LessOne {
     pub fn count(self) -> usize
         ensures { result ≡ count_of self }
     {
-        self.0 as usize + 1
+        usize::from(self.0) + 1
     }
 
     // What is sent for a count.
@@ -51,21 +51,21 @@ impl Sector {
         requires { at < length bytes.now }
         ensures { result ≡ indexed_at bytes.now at }
     {
-        Sector(bytes[at] as u16)
+        Sector(u16::from(bytes[at]))
     }
 
     // Whether the board has the sector.
     pub fn exists(self) -> bool
         ensures { result ≡ is_sector self }
     {
-        (self.0 as usize) < Board::SECTORS
+        usize::from(self.0) < Board::SECTORS
     }
 
     // The offset of the sector's first byte in flash.
     pub fn start(self) -> usize
         ensures { result ≡ start_of self }
     {
-        bytes_in(self.0 as usize)
+        bytes_in(usize::from(self.0))
     }
 
     // The sector in which a byte of flash lies.

@@ -23,14 +23,14 @@ impl Sector {
     pub fn bit_index(self) -> usize
         ensures { result ≡ bit_index self }
     {
-        self.0 as usize / BYTE_BITS
+        usize::from(self.0) / BYTE_BITS
     }
 
     // Which bit of that byte is this sector's.
     pub fn bit_place(self) -> usize
         ensures { result ≡ bit_place self }
     {
-        self.0 as usize % BYTE_BITS
+        usize::from(self.0) % BYTE_BITS
     }
 }
 
@@ -51,14 +51,14 @@ impl View {
     }
 
     // Whether a sector is write-protected.
+    #[tactic(auto, unfolding(crate::specs::View::write_protected))]
     pub fn write_protected(self, sector: Sector) -> bool
-        requires { T (is_sector sector) }
         ensures { result ≡ write_protected self sector }
     {
         let bits = self.bits;
-        let byte = sector.bit_index();
         let bit = sector.bit_place();
-        (bits[byte] >> bit) & 1 == 0
+        let byte = bits.get(sector.bit_index()).copied().unwrap_or(0);
+        (byte >> bit) & 1 == 0
     }
 
     // Whether one of n sectors in order is write-protected.

@@ -38,14 +38,14 @@ use Rattle.boot.specs.Decide.{connected, decide_byte, decide_frame}
 use Rattle.boot.specs.Calls.{State, Byte, Framed, Outcome, view_in, cause_for, decide, sent, perform, call}
 use Rattle.boot.specs.Gathering.{Gathers, HearsFrames, SilentFrame}
 use Rattle.carriers.specs.declared.Carrier.TheVariants.{Uart, Can}
-use Rattle.boot.specs.declared.Cause.TheVariants.{Accepted}
+use Rattle.boot.specs.Causes.{accepted}
 use Rattle.boot.specs.declared.Session.{Session}
 use Rattle.boot.proofs.Sound.{can_expects}
 
 -- what a call leaves that only gathers bytes
 abbrev pub only_gathered : List ℕ → State → Outcome
 only_gathered new p = record {
-  cause = Accepted;
+  cause = accepted;
   reply = [];
   reason = no_reason;
   place = 0;

@@ -8,6 +8,7 @@ use lib.Dec.{T, eqb, leb}
 use lib.ListN.{length, take, drop, get_or, length-append, length-drop}
 use lib.Seq.{drop-length, drop-drop}
 use borrow.Author.Tests.{eq-eqb, ne_eqb}
+use Rattle.std.specs.Prelude.{Ok, Err}
 use Rattle.words.specs.Lists.{join}
 use Rattle.words.specs.Over.{put, newer}
 use Rattle.words.proofs.Over.{over_none, put_then, put_front, length_over}
@@ -22,8 +23,9 @@ use Rattle.boot.specs.Gathering.{Gathers}
 use Rattle.boot.specs.Promise.{Left, left, state_of, unanswered_taken, outcome, Leaves}
 use Rattle.boot.specs.Slices.{one_by_one, after_bytes, how_many, Nack, no_nack, later, as_one, taking, slice_cause, call_bytes, GivenBytes, given_bytes}
 use Rattle.boot.specs.Slices.{slice_outcome, LeavesBytes, TookBytes, nack_of, joined, TookFront}
+use Rattle.boot.specs.Causes.{Judged}
+use Rattle.boot.specs.Causes.{accepted}
 use Rattle.boot.specs.declared.Cause.{Cause}
-use Rattle.boot.specs.declared.Cause.TheVariants.{Accepted}
 use Rattle.boot.specs.declared.Session.{Session}
 use Rattle.boot.specs.declared.Taken.{Taken}
 use Rattle.boot.proofs.Causes.{accepts_number, call_cause, refused_call, accepted_clear, refused_leaves}
@@ -323,7 +325,7 @@ ends_leaves s m lent bs {r} e h whole =
 
 -- the same of what is left when no call has handed back anything
 pub left_leaves : (s : Session) (m : Memories) (lent bs : List ℕ) (first : Taken) {r : Taken} {n : ℕ} {m' : Memories} {buffer : List ℕ}
-    → first ≡ unanswered_taken Accepted s → r.number ≡ first.number → r.length ≤ length lent
+    → first ≡ unanswered_taken accepted s → r.number ≡ first.number → r.length ≤ length lent
     → left_over bs m lent first 0 ≡ nothing_left m' buffer r n
     → LeavesBytes (taking (length lent) bs (state_of s m)) lent n (left r m' buffer)
 left_leaves s m lent bs first e number fits whole =
@@ -332,18 +334,18 @@ left_leaves s m lent bs first e number fits whole =
     (sym (ap (λ (k : ℕ). ends 0 0 lent no_nack k bs (state_of s m)) room
     ∙ ap (λ (t : Taken). left_over bs m lent t 0) (sym e) ∙ whole))
 
-module _ (g : GivenBytes) (c : Cause) (ec : c ≡ slice_cause g.state) where
+module _ (g : GivenBytes) (c : Judged) (ec : c ≡ slice_cause g.state) where
   -- a slice that is not refused is taken
-  pub slice_taken : {n : ℕ} {l : Left} → accepts c ≡ true → LeavesBytes (taking (length g.buffer) g.bytes g.state) g.buffer n l
+  pub slice_taken : {n : ℕ} {l : Left} {u : Unit {0}} → c ≡ Ok u → LeavesBytes (taking (length g.buffer) g.bytes g.state) g.buffer n l
       → TookBytes g n l
   unfolding slice_outcome call_bytes
-  slice_taken h k = rw (← ec, h) k
+  slice_taken e k = rw (← ec, e) k
 
   -- one that is leaves everything as it was
-  pub slice_refused : {r : Taken} → accepts c ≡ false → r ≡ unanswered_taken c g.state.session
+  pub slice_refused : {r : Taken} {k : Cause} → c ≡ Err k → r ≡ unanswered_taken (Err k) g.state.session
       → TookBytes g 0 (left r g.state.memories g.buffer)
   unfolding slice_outcome call_bytes
-  slice_refused h e = rw (← ec, h) (record { count = refl; leaves = refused_leaves g.state g.buffer e })
+  slice_refused e er = rw (← ec, e) (record { count = refl; leaves = refused_leaves g.state g.buffer er })
 
 -- a slice that is not refused finds a sound session
 pub slice_sound : (p : State) → accepts (slice_cause p) ≡ true → T (sound p.session)

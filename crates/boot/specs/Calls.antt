@@ -22,8 +22,8 @@ use Rattle.boot.specs.Decide.{decide_byte, decide_frame}
 use Rattle.boot.specs.Causes.{cause_of, accepts}
 use Rattle.carriers.specs.declared.Carrier.{Carrier}
 use Rattle.carriers.specs.declared.Carrier.TheVariants.{None, Uart, Can}
-use Rattle.boot.specs.declared.Cause.{Cause}
-use Rattle.boot.specs.declared.Cause.TheVariants.{Accepted}
+use Rattle.boot.specs.Causes.{Judged}
+use Rattle.boot.specs.Causes.{accepted}
 use Rattle.boot.specs.declared.Session.{Session}
 
 -- the session and the three memories
@@ -43,7 +43,7 @@ pub data Input : Type 0 where
 
 -- what a call gives back and leaves: beside the reply the reason of a NACK in it and the place where it fell
 pub record Outcome : Type 0 where
-  pub cause : Cause
+  pub cause : Judged
   pub reply : List ℕ
   pub reason : ℕ
   pub place : ℕ
@@ -62,12 +62,12 @@ brings (Byte room b) = b ∷ []
 brings (Framed room l) = carried (frame_in l)
 
 -- why a UART byte is refused, if it is, whatever byte it is, with such a room for the reply
-abbrev pub byte_cause : ℕ → State → Cause
+abbrev pub byte_cause : ℕ → State → Judged
 byte_cause room p = cause_of (proper p.memories) (leb UC.uart_room room) true p.session
 
 -- why an input is refused, if it is
-unfoldable pub cause_for : Input → State → Cause
-cause_for Power p = Accepted
+unfoldable pub cause_for : Input → State → Judged
+cause_for Power p = accepted
 cause_for (Byte room b) p = byte_cause room p
 cause_for (Framed room l) p = cause_of (proper p.memories) (leb CC.can_room room) (is_frame classic l) p.session
 
@@ -100,7 +100,7 @@ sent (Framed room l) s ms = framed classic (bears s (frame_in l).id) ms
 -- a decision is carried out
 unfoldable pub perform : Input → State → Decision → Outcome
 perform i p d = record {
-  cause = Accepted;
+  cause = accepted;
   reply = sent i p.session (says (commands_of i) d.reply p.memories);
   reason = reason_of d.reply;
   place = placed (reason_of d.reply) (falls_at (carrier_of i) p.session);
@@ -111,7 +111,7 @@ perform i p d = record {
 }
 
 -- a refused call gives no reply and no reason, and leaves everything as it was
-abbrev pub refused : Cause → State → Outcome
+abbrev pub refused : Judged → State → Outcome
 refused c p = record { cause = c; reply = []; reason = no_reason; place = 0; state = p }
 
 -- one call

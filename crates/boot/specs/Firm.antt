@@ -1,5 +1,5 @@
 -- What an accepted call leaves is never refused for memories or session: so the call of a slice meets no refusal but that of a running board.
-use Rattle.std.specs.Prelude.{ℕ, ◌+◌, ◌≤◌, ◌<◌, ◌≡◌, true, List, T, length, get_or}
+use Rattle.std.specs.Prelude.{ℕ, ◌+◌, ◌≤◌, ◌<◌, ◌≡◌, true, List, T, length, get_or, Err}
 use Rattle.memories.specs.Memories.{proper}
 use Rattle.boot.specs.Session.{sound}
 use Rattle.boot.specs.Causes.{accepts}
@@ -29,7 +29,7 @@ pub record LeavesFirm : Type 0 where
 
 -- where byte n of a slice finds 257 bytes of room left, its call is refused because the board runs
 abbrev pub RunsAt : ℕ → List ℕ → State → ℕ → Type 0
-RunsAt room bs p n = n < length bs → length (replies_before bs p n) + 257 ≤ room → (call_at bs p n).cause ≡ BoardRunning
+RunsAt room bs p n = n < length bs → length (replies_before bs p n) + 257 ≤ room → (call_at bs p n).cause ≡ Err BoardRunning
 
 -- document 02, Wish 4, "a refusal met midway, by a Jump": so it is of the byte at which a slice stops that was not refused
 abbrev pub RefusedMidway : Type 0

@@ -8,8 +8,8 @@ use Rattle.boot.specs.Session.{fresh}
 use Rattle.boot.specs.Causes.{cause_no}
 use Rattle.boot.specs.Calls.{State, Input, Byte, Framed, Outcome, call}
 use Rattle.carriers.specs.declared.Carrier.{Carrier}
-use Rattle.boot.specs.declared.Cause.{Cause}
-use Rattle.boot.specs.declared.Cause.TheVariants.{Accepted}
+use Rattle.boot.specs.Causes.{Judged}
+use Rattle.boot.specs.Causes.{accepted}
 use Rattle.boot.specs.declared.Session.{Session}
 use Rattle.boot.specs.declared.Taken.{Taken}
 
@@ -61,7 +61,7 @@ outcome g = call g.input g.state
 -- what an accepted call hands back: the carrier, the session, the session with the input's bytes, what was decided, the reply's length
 abbrev pub accepted_taken : Carrier → Session → Session → Decision → ℕ → Taken
 accepted_taken c s t d n = record {
-  number = cause_no Accepted;
+  number = cause_no accepted;
   length = n;
   reason = reason_of d.reply;
   place = S.placed (reason_of d.reply) (S.falls_at c s);
@@ -69,7 +69,7 @@ accepted_taken c s t d n = record {
 }
 
 -- what is handed back where nothing was taken: the number of a cause, or of none
-abbrev pub unanswered_taken : Cause → Session → Taken
+abbrev pub unanswered_taken : Judged → Session → Taken
 unanswered_taken c s = record { number = cause_no c; length = 0; reason = no_reason; place = 0; session = s }
 
 -- what is left is what an outcome says, part by part; the reply buffer beyond the reply is unchanged

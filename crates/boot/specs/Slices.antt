@@ -11,8 +11,8 @@ use Rattle.boot.specs.Causes.{accepts}
 use Rattle.boot.specs.Calls.{State, Byte, Outcome, byte_cause, refused, outcomes, run}
 use Rattle.boot.specs.Gathering.{Gathers}
 use Rattle.boot.specs.Promise.{Left, state_of, given_byte, Leaves, Took}
-use Rattle.boot.specs.declared.Cause.{Cause}
-use Rattle.boot.specs.declared.Cause.TheVariants.{Accepted}
+use Rattle.boot.specs.Causes.{Judged}
+use Rattle.boot.specs.Causes.{accepted}
 use Rattle.boot.specs.declared.Session.{Session}
 use Rattle.boot.specs.declared.Taken.{Taken}
 
@@ -61,7 +61,7 @@ pub record SliceOutcome : Type 0 where
 -- the calls of some bytes as one, which is accepted: their replies joined, the last reason with its place, and the state that they leave
 unfoldable pub as_one : List ℕ → State → Outcome
 as_one bs p = record {
-  cause = Accepted;
+  cause = accepted;
   reply = join (map (λ (o : Outcome). o.reply) (one_by_one bs p));
   reason = (last_nack (one_by_one bs p)).reason;
   place = (last_nack (one_by_one bs p)).place;
@@ -75,7 +75,7 @@ taking room bs p =
     record { count = n; outcome = as_one (take n bs) p }
 
 -- refused as a single byte is that has room enough, so never for reply room; tested first, whatever the slice and the room
-unfoldable pub slice_cause : State → Cause
+unfoldable pub slice_cause : State → Judged
 slice_cause p = byte_cause uart_room p
 
 -- a refused one takes no byte

@@ -2,15 +2,17 @@
 ghost use Rattle.std.specs.Prelude.{◌≡◌, [], ◌∷◌, ◌≤◌, ◌<◌, T, length, get_or};
 ghost use Rattle.board.specs.Quantities.{address_bytes};
 ghost use Rattle.memories.specs.Effects.{fits};
+ghost use Rattle.command.specs.Progress.{progress_at, progress_of};
 ghost use Rattle.command.specs.Says.{sayable};
-ghost use Rattle.frames.specs.Frames.{classic, frame_of};
+ghost use Rattle.frames.specs.Frames.{classic, counted_of};
 ghost use Rattle.boot.specs.Session.{sound, gathered};
 ghost use Rattle.boot.specs.Decide.{unconnected, decide_byte, decide_frame};
 
 use crate::Session;
 use board::View;
 use carriers::Carrier;
-use command::{Decision, FixedReply, Next};
+use command::{Decision, FixedReply, Next, SoFar};
+use frames::Counted;
 
 // The byte that asks for a connection, and the ID.
 const CONNECT_BYTE: u8 = 0x7F;
@@ -30,6 +32,18 @@ impl Session {
         }
     }
 
+    // How far the session has come with its step, with what it has staged once an input's bytes are taken.
+    fn so_far(self, taken: &Session) -> SoFar<'_>
+        ensures { progress_of result ≡ progress_at self.taken self.expected self.address taken.now.staged }
+    {
+        SoFar {
+            taken: self.taken,
+            expected: self.expected,
+            address: self.address,
+            staged: &taken.staged,
+        }
+    }
+
     // What one UART byte decides, which can be said and carried out, given the session with the byte taken.
     pub(crate) fn decide_byte(self, byte: u8, taken: Session, view: View) -> Decision
         requires { T (sound self) × (taken ≡ gathered (byte ∷ []) self) × (get_or taken.staged 0 0 < 256) }
@@ -37,45 +51,23 @@ impl Session {
     {
         let here = self.on(Carrier::Uart);
         if here {
-            uart_code::heard(
-                self.step,
-                self.taken,
-                self.expected,
-                self.address,
-                &taken.staged,
-                view,
-            )
+            uart_code::heard(uart::Step::of(self.step), self.so_far(&taken), view)
         } else {
             self.unconnected(byte == CONNECT_BYTE)
         }
     }
 
-    // What one CAN frame decides, which can be said and carried out, given its ID, the data bytes that count, and the session with these taken.
-    pub(crate) fn decide_frame(
-        self,
-        id: u16,
-        carried: &[u8],
-        taken: Session,
-        view: View,
-    ) -> Decision
-        requires { T (sound self) × (taken ≡ gathered carried.now self) × (length carried.now ≤ classic.largest)
-            × (get_or carried.now address_bytes 0 < 256) }
-        ensures { (result ≡ decide_frame self view (frame_of id carried.now)) × T (sayable result.reply) × T (fits result.change taken.staged) }
+    // What one CAN frame decides, which can be said and carried out, given the session with its data bytes taken.
+    pub(crate) fn decide_frame(self, frame: Counted<'_>, taken: Session, view: View) -> Decision
+        requires { T (sound self) × (taken ≡ gathered frame.carried.now self) × (length frame.carried.now ≤ classic.largest)
+            × (get_or frame.carried.now address_bytes 0 < 256) }
+        ensures { (result ≡ decide_frame self view (counted_of frame.entry)) × T (sayable result.reply) × T (fits result.change taken.staged) }
     {
         let here = self.on(Carrier::Can);
         if here {
-            can_code::heard(
-                self.step,
-                self.taken,
-                self.expected,
-                self.address,
-                &taken.staged,
-                view,
-                id,
-                carried,
-            )
+            can_code::heard(can::Step::of(self.step), self.so_far(&taken), view, frame)
         } else {
-            self.unconnected(id == CONNECT_ID)
+            self.unconnected(frame.id == CONNECT_ID)
         }
     }
 }

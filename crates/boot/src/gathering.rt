@@ -12,7 +12,7 @@ pub fn silent_bytes(session: Session, n: usize, ready: bool) -> usize
 {
     let gathers = ready & session.on(Carrier::Uart) & session.sound();
     if gathers {
-        words::least(n, session.expected - session.taken - 1)
+        n.min(session.expected - session.taken - 1)
     } else {
         0
     }
@@ -30,6 +30,6 @@ pub fn silent_frame(step: u8, taken: usize, expected: usize, id: u16, dlc: usize
     requires { taken ≤ expected }
     ensures { T result → SilentFrame step taken expected id dlc }
 {
-    let own = id == can::bears(step, id);
+    let own = id == can::bears(can::Step::of(step), id);
     own & (0 < dlc) & (dlc < expected - taken)
 }

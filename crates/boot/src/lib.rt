@@ -9,16 +9,15 @@ pub mod slice;
 pub mod steps;
 pub mod take;
 
-ghost use Rattle.std.specs.Prelude.{◌≡◌};
+ghost use Rattle.std.specs.Prelude.{◌≡◌, Err};
 ghost use Rattle.boot.specs.Causes.{cause_no};
 
 // The number of a call that is accepted.
 pub const ACCEPTED: u8 = 0;
 
-// Why a call is refused, and that it is not.
+// Why a call is refused.
 #[derive(Clone, Copy)]
 pub enum Cause {
-    Accepted,
     WrongMemory,
     ShortReply,
     BadFrame,
@@ -39,6 +38,7 @@ pub struct Session {
 }
 
 // What a call hands back: the cause's number, the length of the reply, the reason of a NACK in it and the place where it fell, the next session.
+// Kept: numbers, as C has them, and CauseNumbers, ReasonsAndPlaces and SlicesAreRuns speak of them.
 #[derive(Clone, Copy)]
 pub struct Taken {
     pub number: u8,
@@ -51,10 +51,9 @@ pub struct Taken {
 impl Cause {
     // The number of the cause.
     pub fn number(self) -> u8
-        ensures { result ≡ cause_no self }
+        ensures { result ≡ cause_no (Err self) }
     {
         match self {
-            Cause::Accepted => ACCEPTED,
             Cause::WrongMemory => 1,
             Cause::ShortReply => 2,
             Cause::BadFrame => 3,

@@ -81,8 +81,9 @@ impl Session {
     {
         let n = bytes.len();
         // Nothing is taken yet.
-        let mut done = self.unanswered(Cause::Accepted);
+        let mut done = self.unanswered(Ok(()));
         let mut count = 0;
+        // Kept: a turn takes several bytes; `while let [_, ..] = rest` would need count beside rest, which is handed back, and a split_at more.
         while count < n {
             let here = done.session;
             let at = done.length;
@@ -108,7 +109,7 @@ impl Session {
 
     // Why a slice is refused, if it is: as a byte that has room enough.
     #[tactic(auto, unfolding(crate::specs::Slices::slice_cause))]
-    fn slice_cause(self, lent: &Lent<'_>) -> Cause
+    fn slice_cause(self, lent: &Lent<'_>) -> Result<(), Cause>
         ensures { result ≡ slice_cause (state_of self (holds lent.now)) }
     {
         self.byte_cause(lent, uart::ROOM)
@@ -120,12 +121,10 @@ impl Session {
             (left result.call (has lent) buffer.new) }
         ensures same { Same lent }
     {
-        let cause = self.slice_cause(lent);
-        let clear = cause.accepts();
-        if !clear {
+        if let Err(cause) = self.slice_cause(lent) {
             return TakenBytes {
                 count: 0,
-                call: self.unanswered(cause),
+                call: self.unanswered(Err(cause)),
             };
         }
         self.take_on(bytes, lent, buffer)

@@ -6,70 +6,60 @@ ghost use Rattle.uart.specs.Conversation as UC;
 ghost use Rattle.can.specs.Conversation as CC;
 ghost use Rattle.frames.specs.Frames.{classic, is_frame};
 ghost use Rattle.boot.specs.Session.{sound};
-ghost use Rattle.boot.specs.Causes.{accepts, cause_of};
+ghost use Rattle.boot.specs.Causes.{cause_of};
 ghost use Rattle.boot.specs.Calls.{bears};
 ghost use Rattle.boot.specs.Promise.{left, given_byte, given_frame, accepted_taken, unanswered_taken, Took};
 
-use crate::{Cause, Session, Taken};
+use crate::{ACCEPTED, Cause, Session, Taken};
 use carriers::Carrier;
 use command::Decision;
 use command::reason::NO_REASON;
+use frames::Counted;
 use memories::Lent;
-
-impl Cause {
-    // Whether the call is accepted.
-    pub(crate) fn accepts(self) -> bool
-        ensures { result ≡ accepts self }
-    {
-        match self {
-            Cause::Accepted => true,
-            _ => false,
-        }
-    }
-}
 
 impl Session {
     // The cause of what only the session tells.
-    fn own_cause(self) -> Cause
+    #[tactic(auto, unfolding(crate::specs::Causes::cause_of))]
+    fn own_cause(self) -> Result<(), Cause>
         ensures { result ≡ cause_of true true true self }
     {
         let sound = self.sound();
         if !sound {
-            return Cause::UnsoundSession;
+            return Err(Cause::UnsoundSession);
         }
         let running = self.on(Carrier::Running);
         if running {
-            Cause::BoardRunning
-        } else {
-            Cause::Accepted
+            return Err(Cause::BoardRunning);
         }
+        Ok(())
     }
 
     // The first cause that holds.
-    pub(crate) fn cause(self, memories: bool, room: bool, frame: bool) -> Cause
+    #[tactic(auto, unfolding(crate::specs::Causes::cause_of))]
+    pub(crate) fn cause(self, memories: bool, room: bool, frame: bool) -> Result<(), Cause>
         ensures { result ≡ cause_of memories room frame self }
     {
         if !memories {
-            return Cause::WrongMemory;
+            return Err(Cause::WrongMemory);
         }
         if !room {
-            return Cause::ShortReply;
+            return Err(Cause::ShortReply);
         }
         if !frame {
-            return Cause::BadFrame;
+            return Err(Cause::BadFrame);
         }
         self.own_cause()
     }
 
     // Why a byte is refused, if it is, given the memories and the room that are lent.
-    pub(crate) fn byte_cause(self, lent: &Lent<'_>, room: usize) -> Cause
+    pub(crate) fn byte_cause(self, lent: &Lent<'_>, room: usize) -> Result<(), Cause>
         ensures { result ≡ cause_of (proper (holds lent.now)) (leb UC.uart_room room) true self }
     {
         self.cause(lent.lengths_right(), uart::has_room(room), true)
     }
 
     // Why a frame is refused, if it is, given the memories and the room that are lent.
-    fn frame_cause(self, frame: &[u8], lent: &Lent<'_>, room: usize) -> Cause
+    fn frame_cause(self, frame: &[u8], lent: &Lent<'_>, room: usize) -> Result<(), Cause>
         ensures { result ≡ cause_of (proper (holds lent.now)) (leb CC.can_room room) (is_frame classic frame.now) self }
     {
         self.cause(
@@ -79,12 +69,16 @@ impl Session {
         )
     }
 
-    // What is handed back where nothing is taken: the cause's number, no reply, no reason, and the session stays.
-    pub(crate) fn unanswered(self, cause: Cause) -> Taken
+    // What is handed back where nothing is taken: the number of the cause or of none, no reply, no reason, and the session stays.
+    pub(crate) fn unanswered(self, cause: Result<(), Cause>) -> Taken
         ensures { result ≡ unanswered_taken cause self }
     {
+        let number = match cause {
+            Ok(()) => ACCEPTED,
+            Err(cause) => cause.number(),
+        };
         Taken {
-            number: cause.number(),
+            number: number,
             length: 0,
             reason: NO_REASON,
             place: 0,
@@ -97,7 +91,11 @@ impl Session {
         ensures { result ≡ bears self id }
     {
         let here = self.on(Carrier::Can);
-        if here { can::bears(self.step, id) } else { id }
+        if here {
+            can::bears(can::Step::of(self.step), id)
+        } else {
+            id
+        }
     }
 
     // An accepted call tells how long its reply is, the reason and the place of a NACK in it, and hands back the session that follows.
@@ -109,7 +107,7 @@ impl Session {
         let reply = decision.reply;
         let reason = reply.reason();
         Taken {
-            number: Cause::Accepted.number(),
+            number: ACCEPTED,
             length: length,
             reason: reason,
             place: self.place(carrier, reason),
@@ -122,10 +120,8 @@ impl Session {
         ensures took { Took (given_byte self byte (had lent) buffer.old) (left result (has lent) buffer.new) }
         ensures same { Same lent }
     {
-        let cause = self.byte_cause(lent, buffer.len());
-        let clear = cause.accepts();
-        if !clear {
-            return self.unanswered(cause);
+        if let Err(cause) = self.byte_cause(lent, buffer.len()) {
+            return self.unanswered(Err(cause));
         }
         let taken = self.gather_byte(byte);
         let decision = self.decide_byte(byte, taken, lent.view());
@@ -141,15 +137,13 @@ impl Session {
         ensures took { Took (given_frame self frame.now (had lent) buffer.old) (left result (has lent) buffer.new) }
         ensures same { Same lent }
     {
-        let cause = self.frame_cause(frame, lent, buffer.len());
-        let clear = cause.accepts();
-        if !clear {
-            return self.unanswered(cause);
+        if let Err(cause) = self.frame_cause(frame, lent, buffer.len()) {
+            return self.unanswered(Err(cause));
         }
         let id = frames::id(frame);
         let carried = frames::carried(frame);
         let taken = self.gather(carried);
-        let decision = self.decide_frame(id, carried, taken, lent.view());
+        let decision = self.decide_frame(Counted { id, carried }, taken, lent.view());
         let reply = decision.reply;
         let change = decision.change;
         let length = reply::in_frames::say(reply, self.bears(id), lent, buffer);

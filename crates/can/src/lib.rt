@@ -3,20 +3,23 @@
 
 pub mod held;
 
-ghost use Rattle.std.specs.Prelude.{◌≡◌, not, ◌||◌, ◌+◌, ◌≤◌, ◌<◌, eqb, leb, ltb};
+ghost use Rattle.std.specs.Prelude.{◌≡◌, not, ◌||◌, ◌≤◌, ◌<◌, length, eqb, leb};
 ghost use Rattle.board.specs.Quantities.{largest_count};
 ghost use Rattle.command.specs.Decision.{if◌gives◌else◌, answer, nack};
 ghost use Rattle.command.specs.declared.Next.TheVariants.{Gather};
 ghost use Rattle.command.specs.declared.FixedReply.TheVariants.{Silence};
 ghost use Rattle.command.specs.declared.Why.TheVariants.{BadRange, OtherFrame};
+ghost use Rattle.command.specs.Progress.{progress_of, short, overfull};
 ghost use Rattle.frames.specs.Frames.{classic};
 ghost use Rattle.can.specs.Steps.{step_no, step_of, expects};
 ghost use Rattle.can.specs.Conversation.{bears, can_room};
 
 use board::{Board, LessOne, Sector};
-use command::{Decision, FixedReply, Next, Why, code};
+use command::{Decision, FixedReply, Next, SoFar, Why, code};
+use frames::Counted;
 
 // The steps of the CAN conversation, idle first.
+// Kept: a type of its own beside uart::Step (d): a trait of both has only `of` and `expects`, and each body is its own table of cases.
 #[derive(Clone, Copy)]
 pub enum Step {
     Idle,
@@ -38,6 +41,7 @@ pub const LARGEST_SPEED: u8 = 3;
 pub const ROOM: usize = 363;
 
 // Whether a reply buffer of this length has the room that a reply may need.
+// Kept: twin of uart::has_room (d): one `has_room(room, length)` is `room <= length`, which is no plainer than the call.
 pub fn has_room(length: usize) -> bool
     ensures { result ≡ leb can_room length }
 {
@@ -81,36 +85,29 @@ impl Step {
 }
 
 // The ID that replies bear: the frame's own, or while gathering the running one.
-pub fn bears(step: u8, id: u16) -> u16
-    ensures { result ≡ bears (step_of step) id }
+pub fn bears(step: Step, id: u16) -> u16
+    ensures { result ≡ bears step id }
 {
-    let here = Step::of(step);
-    match here {
+    match step {
         Step::Idle => id,
-        Step::WriteData => code::WRITE_MEMORY as u16,
-        Step::EraseList => code::ERASE as u16,
-        Step::ProtectList => code::PROGRAM_PROTECT as u16,
+        Step::WriteData => u16::from(code::WRITE_MEMORY),
+        Step::EraseList => u16::from(code::ERASE),
+        Step::ProtectList => u16::from(code::PROGRAM_PROTECT),
     }
 }
 
 // A frame that comes while gathering: one of another ID, or empty, ends the command and is not used; others are gathered until all bytes are there.
-pub fn gathering(
-    running: u8,
-    taken: usize,
-    expected: usize,
-    id: u16,
-    dlc: usize,
-    done: Decision,
-) -> Decision
-    requires { (taken < expected) × (expected ≤ largest_count) × (dlc ≤ classic.largest) }
+pub fn gathering(running: u8, here: SoFar<'_>, frame: Counted<'_>, done: Decision) -> Decision
+    requires { (here.taken < here.expected) × (here.expected ≤ largest_count) × (length frame.carried.now ≤ classic.largest) }
     ensures { result ≡
-        (if not (eqb id running) || eqb dlc 0 gives nack OtherFrame else if ltb (taken + dlc) expected gives answer Silence Gather else done) }
+        (if not (eqb frame.entry.id running) || eqb (length frame.entry.carried.now) 0 gives nack OtherFrame
+        else if short (progress_of here.entry) frame.entry.carried.now gives answer Silence Gather else done) }
 {
-    let other = (id != running as u16) | (dlc == 0);
+    let other = (frame.id != u16::from(running)) | frame.carried.is_empty();
     if other {
         return command::nack(Why::OtherFrame);
     }
-    let more = taken + dlc < expected;
+    let more = here.taken + frame.carried.len() < here.expected;
     if more {
         command::answer(FixedReply::Silence, Next::Gather)
     } else {
@@ -119,11 +116,11 @@ pub fn gathering(
 }
 
 // A decision on a list, unless its last frame has extra bytes.
-pub fn unless_extra(taken: usize, expected: usize, dlc: usize, decision: Decision) -> Decision
-    requires { (taken < expected) × (expected ≤ largest_count) × (dlc ≤ classic.largest) }
-    ensures { result ≡ (if ltb expected (taken + dlc) gives nack BadRange else decision) }
+pub fn unless_extra(here: SoFar<'_>, frame: Counted<'_>, decision: Decision) -> Decision
+    requires { (here.taken < here.expected) × (here.expected ≤ largest_count) × (length frame.carried.now ≤ classic.largest) }
+    ensures { result ≡ (if overfull (progress_of here.entry) frame.entry.carried.now gives nack BadRange else decision) }
 {
-    let extra = expected < taken + dlc;
+    let extra = here.expected < here.taken + frame.carried.len();
     if extra {
         command::nack(Why::BadRange)
     } else {

@@ -7,6 +7,7 @@ ghost use Rattle.can.specs.Conversation.{dlc_fits, erased_or_not, selected, read
 use board::{Sector, View};
 use can::{LARGEST_SPEED, Step};
 use command::{Command, Decision, FixedReply, Next, Why, code};
+use frames::Counted;
 use memories::Change;
 use rules::Selector;
 use rules_code::{at_once, sent};
@@ -24,9 +25,6 @@ const SELECTOR_OR_SPEED: usize = 2;
 
 // The DLC of a count alone.
 const COUNT_ONLY: usize = 1;
-
-// The largest number that a command may have: a byte's.
-const LARGEST_NUMBER: u16 = 0xFF;
 
 // Whether the DLC is the one that a command must have; the rest ignore DLC and data.
 fn dlc_fits(command: Command, dlc: usize) -> bool
@@ -92,7 +90,7 @@ fn selected(view: View, selector: Selector) -> Decision
             ),
         ),
         Selector::Special(number) => {
-            erased_or_not(list_rules_code::erase::erase_all_verdict(view, number as u32))
+            erased_or_not(list_rules_code::erase::erase_all_verdict(view, u32::from(number)))
         }
         Selector::Impossible => command::nack(Why::BadRange),
     }
@@ -174,11 +172,7 @@ fn obeyed(view: View, carried: &[u8], command: Command) -> Decision
 fn look_up(id: u16) -> Option<Command>
     ensures { result ≡ look_up can_commands id }
 {
-    if id <= LARGEST_NUMBER {
-        code::look_up(id as u8)
-    } else {
-        None
-    }
+    u8::try_from(id).ok().and_then(code::look_up)
 }
 
 // A command that is known, has its DLC and is not forbidden is obeyed.
@@ -196,8 +190,8 @@ fn commanded(view: View, carried: &[u8], found: Option<Command>) -> Decision
 }
 
 // A command frame.
-pub fn command_frame(view: View, id: u16, carried: &[u8]) -> Decision
-    ensures { result ≡ commanded view carried.now (look_up can_commands id) }
+pub fn command_frame(view: View, frame: Counted<'_>) -> Decision
+    ensures { result ≡ commanded view frame.entry.carried.now (look_up can_commands frame.entry.id) }
 {
-    commanded(view, carried, look_up(id))
+    commanded(view, frame.carried, look_up(frame.id))
 }

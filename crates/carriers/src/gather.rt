@@ -11,7 +11,7 @@ pub fn stage(staged: &mut [u8; STAGED], at: usize, new: &[u8], n: usize)
     requires { (at + n ≤ staged_bytes) × (n ≤ length new.now) }
     ensures { staged.new ≡ put staged.old at (take n new.now) }
 {
-    words::copy(staged, at, new, 0, n);
+    words::lay(staged, at, &new[..n]);
 }
 
 // Stages new bytes as far as a step expects them, whatever its address, and tells how many it has then taken.
@@ -20,7 +20,7 @@ pub fn gather(staged: &mut [u8; STAGED], taken: usize, expected: usize, new: &[u
     ensures { (result ≡ taken + length (fitting (progress_at taken expected 0 staged.old) new.now))
         × (staged.new ≡ staged_with (progress_at taken expected 0 staged.old) new.now) }
 {
-    let fit = words::least(expected - taken, new.len());
-    stage(staged, taken, new, fit);
+    let fit = (expected - taken).min(new.len());
+    words::lay(staged, taken, &new[..fit]);
     taken + fit
 }

@@ -7,23 +7,21 @@ pub mod held;
 ghost use Rattle.std.specs.Prelude.{◌≡◌};
 ghost use Rattle.carriers.specs.Carriers.{carrier_no, idle_expects, step_sound};
 
-// What a session is connected to.
+// What a session is connected to, by its number.
 #[derive(Clone, Copy)]
 pub enum Carrier {
-    None,
-    Uart,
-    Can,
-    Running,
+    None = 0,
+    Uart = 1,
+    Can = 2,
+    Running = 3,
 }
 
-// The numbers of the carriers.
-const NONE: u8 = 0;
+// The numbers of the carriers that have steps, and the largest number.
+const UART: u8 = Carrier::Uart as u8;
 
-const UART: u8 = 1;
+const CAN: u8 = Carrier::Can as u8;
 
-const CAN: u8 = 2;
-
-pub const RUNNING: u8 = 3;
+pub const RUNNING: u8 = Carrier::Running as u8;
 
 // What carriers none and running expect.
 pub const RESTING: usize = 1;
@@ -33,12 +31,7 @@ impl Carrier {
     pub fn number(self) -> u8
         ensures { result ≡ carrier_no self }
     {
-        match self {
-            Carrier::None => NONE,
-            Carrier::Uart => UART,
-            Carrier::Can => CAN,
-            Carrier::Running => RUNNING,
-        }
+        self as u8
     }
 
     // What an idle session expects on the carrier.
@@ -46,10 +39,9 @@ impl Carrier {
         ensures { result ≡ idle_expects self }
     {
         match self {
-            Carrier::None => RESTING,
+            Carrier::None | Carrier::Running => RESTING,
             Carrier::Uart => uart::COMPLEMENTED_BYTE,
             Carrier::Can => can::ONE_FRAME,
-            Carrier::Running => RESTING,
         }
     }
 }

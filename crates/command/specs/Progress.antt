@@ -1,6 +1,7 @@
 -- How a step gathers its bytes, said once for one UART byte and for the bytes of a frame of any size.
 use Rattle.std.specs.Prelude.{ℕ, ◌+◌, ◌-◌, ◌≤◌, ◌<◌, ◌≡◌, Bool, List, length, get_or, take, ltb}
 use Rattle.words.specs.Over.{put}
+use Rattle.command.specs.declared.SoFar.{SoFar}
 
 -- how far a session has come with its step
 pub record Progress : Type 0 where
@@ -12,6 +13,10 @@ pub record Progress : Type 0 where
 -- the progress that has these numbers and these staged bytes
 abbrev pub progress_at : ℕ → ℕ → ℕ → List ℕ → Progress
 progress_at taken expected a staged = record { taken = taken; expected = expected; address = a; staged = staged }
+
+-- the progress that is handed on with its staged bytes lent
+abbrev pub progress_of : SoFar → Progress
+progress_of p = progress_at p.taken p.expected p.address p.staged.now
 
 -- the new bytes that the step still expects; extra ones are dropped
 abbrev pub fitting : Progress → List ℕ → List ℕ

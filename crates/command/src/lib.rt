@@ -89,6 +89,15 @@ pub enum Next {
     Run(u32),
 }
 
+// How far a session has come with its step: what it has taken and what it expects, its address, and the bytes staged.
+#[derive(Clone, Copy)]
+pub struct SoFar<'a> {
+    pub taken: usize,
+    pub expected: usize,
+    pub address: u32,
+    pub staged: &'a [u8],
+}
+
 // What is decided on an input.
 #[derive(Clone, Copy)]
 pub struct Decision {

@@ -224,13 +224,3 @@ power_told p = refl
 pub power_noted : (p : State) → notes (Power ∷ []) p ≡ quiet (powered p.memories)
 unfolding makes made call cause_for decide perform after effect
 power_noted p = refl
-
--- a number that stands between `? ` and LF is a notice
-pub noticed : (n at end : ℕ) (m out' : List ℕ) → end ≡ at + 2 + length (decimal n) → out' ≡ put (put m at (not_understood ∷ space ∷ [])) (at + 2) (decimal n)
-    → set out' end line_feed ≡ put m at (notice n)
-noticed n at end m out' e w =
-    rw (w, put_then m at (at + 2) (not_understood ∷ space ∷ []) (decimal n) (omega arith))
-    (put_behind m at end (not_understood ∷ space ∷ decimal n) line_feed (omega arith))
-
-pub length-notice : (n : ℕ) → length (notice n) ≡ length (decimal n) + 3
-length-notice n = let l = length-append (decimal n) (line_feed ∷ []) in omega arith

@@ -3,6 +3,7 @@ use mathlib.Core.Path.{◌≡◌, refl, subst}
 use mathlib.Core.Bool.{◌&&◌}
 use mathlib.Core.List.{List, [], ◌∷◌, map}
 use Prim.Native.Nat.{ℕ, suc, ◌<◌}
+use native.Mathlib.Omega.{arith}
 use lib.Dec.{leb}
 use lib.ListN.{length, get_or, take, drop}
 use Rattle.memories.specs.Memories.{proper}
@@ -14,6 +15,11 @@ use Rattle.desk_answers.specs.Answers.{desk_room, Teller, made, makes}
 use Rattle.desk_answers.specs.Promise.{Continues}
 use Rattle.desk_answers.specs.Told.{Told, ◌then◌}
 use Rattle.desk_answers.proofs.Telling.{all_left}
+
+-- a list of no element
+pub empty : (l : List ℕ) → length l ≡ 0 → l ≡ []
+empty [] e = refl
+empty (b ∷ l) e = absurd (omega arith)
 
 -- what is told in another way is told
 pub told_as : {A : Type 0} {t u : Told A} → t ≡ u → (at : ℕ) (out : List ℕ) → Continues u at out t at out

@@ -1,4 +1,6 @@
 // Why a command was refused: notes the reason and the place of each NACK, and says them in words.
+// Kept: a NACK is noted as two numbers, since `makes` (desk_answers/specs/Answers) joins what is told of calls, replies as notes, as one list of numbers.
+// Kept: reason 0 is none here too, as in `note_of` and in the `Taken` that C gets.
 ghost use Rattle.std.specs.Prelude.{◌≡◌, ◌+◌, ◌*◌, ◌≤◌, ◌<◌, length};
 ghost use Rattle.words.specs.Texts.{characters};
 ghost use Rattle.desk_print.specs.Adds.{Adds};
@@ -21,7 +23,7 @@ pub(crate) fn note(reason: u8, place: u16, notes: &mut [u16], at: usize) -> usiz
     if reason == NO_REASON {
         return at;
     }
-    notes[at] = reason as u16;
+    notes[at] = u16::from(reason);
     notes[at + 1] = place;
     at + NOTE_NUMBERS
 }
@@ -55,9 +57,9 @@ fn explain(reason: u16, place: u16, out: &mut [u8], at: usize) -> usize
     ensures short { result ≤ at + note_numbers * note_room }
 {
     let mut end = add(b"! ", out, at);
-    end = desk_print::number(reason as u64, out, end);
+    end = desk_print::number(u64::from(reason), out, end);
     end = add(b" ", out, end);
-    end = desk_print::number(place as u64, out, end);
+    end = desk_print::number(u64::from(place), out, end);
     end = add(b" ", out, end);
     end = words(reason, out, end);
     add(b"\n", out, end)
@@ -73,12 +75,9 @@ pub(crate) fn explain_all(why: bool, notes: &[u16], out: &mut [u8], at: usize) -
     if quiet {
         return at;
     }
-    let n = notes.len();
     let mut end = at;
-    let mut i = 0;
-    while i + 1 < n {
-        end = explain(notes[i], notes[i + 1], out, end);
-        i += NOTE_NUMBERS;
+    for note in notes.chunks_exact(NOTE_NUMBERS) {
+        end = explain(note[0], note[1], out, end);
     }
     end
 }

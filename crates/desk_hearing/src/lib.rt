@@ -2,7 +2,7 @@
 #![tactic(auto)]
 
 ghost use Rattle.std.specs.Prelude.{◌≡◌, ◌+◌, ◌*◌, ◌^◌, ◌≤◌, ◌<◌, length, take, drop};
-ghost use Rattle.memories.specs.Lent.{were, are};
+ghost use Rattle.memories.specs.Lent.{had, has, Same};
 ghost use Rattle.desk_answers.specs.Told.{◌then◌};
 ghost use Rattle.desk_answers.specs.Desk.{kept_characters, keep, line_ends, hears, input_ends};
 ghost use Rattle.desk_answers.specs.Promise.{Tells, Continues, character_room, answer_room};
@@ -11,6 +11,7 @@ ghost use Rattle.desk_hearing.specs.Promise.{desk_of};
 use boot::Session;
 use desk_lines::line::MOST_CHARACTERS;
 use desk_written::first::LINE_FEED;
+use memories::Lent;
 
 // What is kept of a line: one character more than it may have tells that it is too long.
 pub const KEPT_CHARACTERS: usize = MOST_CHARACTERS + 1;
@@ -49,39 +50,28 @@ fn keep(line: &mut [u8], kept: usize, character: u8) -> usize
 }
 
 // Answers the line that has begun.
-fn end_line(
-    desk: Desk,
-    line: &[u8],
-    flash: &mut [u8],
-    sram: &mut [u8],
-    usd: &mut [u8],
-    out: &mut [u8],
-) -> Desk
+fn end_line(desk: Desk, line: &[u8], lent: &mut Lent<'_>, out: &mut [u8]) -> Desk
     requires kept_in_bounds { desk.kept ≤ length line.now }
     requires lines_bound { desk.lines + 1 < 2 ^ 64 }
     requires kept_in_bounds_2 { desk.end + answer_room desk.kept ≤ length out.old }
-    ensures told { Tells (line_ends (desk_of desk line.now (were flash sram usd))) desk.end out.old
-        result.end out.new (desk_of result line.now (are flash sram usd)) }
+    ensures told { Tells (line_ends (desk_of desk line.now (had lent))) desk.end out.old
+        result.end out.new (desk_of result line.now (has lent)) }
     ensures fits { result.end ≤ desk.end + answer_room desk.kept }
     ensures counts { (result.kept ≡ 0) × (result.lines ≡ desk.lines + 1) }
+    ensures same { Same lent }
 {
-    let session = desk.session;
     let number = desk.lines + 1;
-    let kept = desk.kept;
     let told = desk_answers_code::answer(
-        session,
+        desk.session,
         desk.why,
         number,
-        &line[..kept],
-        flash,
-        sram,
-        usd,
+        &line[..desk.kept],
+        lent,
         out,
         desk.end,
     );
-    let next = told.session;
     Desk {
-        session: next,
+        session: told.session,
         why: desk.why,
         lines: number,
         kept: 0,
@@ -90,100 +80,74 @@ fn end_line(
 }
 
 // Answers the line that has begun, and takes at once the lines behind it that write frames which are only gathered.
-fn go_on(
-    desk: Desk,
-    line: &[u8],
-    rest: &[u8],
-    flash: &mut [u8],
-    sram: &mut [u8],
-    usd: &mut [u8],
-    out: &mut [u8],
-) -> Heard
+fn go_on(desk: Desk, line: &[u8], rest: &[u8], lent: &mut Lent<'_>, out: &mut [u8]) -> Heard
     requires kept_in_bounds { desk.kept ≤ length line.now }
     requires rest_bound { desk.lines + 1 + length rest.now < 2 ^ 64 }
     requires rest_in_bounds { desk.end + answer_room desk.kept + length rest.now ≤ length out.old }
     ensures told { Continues
-        (hears (drop result.characters rest.now) (desk_of result.desk line.now (are flash sram usd))) result.desk.end out.new
-        (line_ends (desk_of desk line.now (were flash sram usd)) then hears rest.now) desk.end out.old }
+        (hears (drop result.characters rest.now) (desk_of result.desk line.now (has lent))) result.desk.end out.new
+        (line_ends (desk_of desk line.now (had lent)) then hears rest.now) desk.end out.old }
     ensures within { result.characters ≤ length rest.now }
     ensures fits { result.desk.end ≤ desk.end + answer_room desk.kept + result.characters }
     ensures counts { (result.desk.kept ≡ 0) × (result.desk.lines ≤ desk.lines + 1 + result.characters) }
+    ensures same { Same lent }
 {
-    let next = end_line(desk, line, flash, sram, usd, out);
-    let session = next.session;
-    let right = boot::take::lengths_right(flash.len(), sram.len(), usd.len());
-    let gathered = desk_passing::gather(session, rest, right);
-    let passed = gathered.session;
-    let lines = gathered.lines;
-    let end = desk_passing::nod(lines, out, next.end);
+    let next = end_line(desk, line, lent, out);
+    let right = lent.lengths_right();
+    let gathered = desk_passing::gather(next.session, rest, right);
+    let end = desk_passing::nod(gathered.lines, out, next.end);
     Heard {
         desk: Desk {
-            session: passed,
+            session: gathered.session,
             why: next.why,
-            lines: next.lines + lines,
+            lines: next.lines + gathered.lines,
             kept: 0,
-            end: end,
+            end,
         },
         characters: gathered.characters,
     }
 }
 
 // Takes characters in, and answers each line as soon as its LF comes.
-pub fn hear(
-    desk: Desk,
-    text: &[u8],
-    line: &mut [u8],
-    flash: &mut [u8],
-    sram: &mut [u8],
-    usd: &mut [u8],
-    out: &mut [u8],
-) -> Desk
+pub fn hear(desk: Desk, text: &[u8], line: &mut [u8], lent: &mut Lent<'_>, out: &mut [u8]) -> Desk
     requires line_len { length line.old ≡ kept_characters }
     requires kept_le_kept_characters { desk.kept ≤ kept_characters }
     requires text_bound { desk.lines + length text.now < 2 ^ 64 }
     requires text_in_bounds { desk.end + character_room * (desk.kept + length text.now) ≤ length out.old }
-    ensures told { Tells (hears text.now (desk_of desk line.old (were flash sram usd))) desk.end out.old
-        result.end out.new (desk_of result line.new (are flash sram usd)) }
+    ensures told { Tells (hears text.now (desk_of desk line.old (had lent))) desk.end out.old
+        result.end out.new (desk_of result line.new (has lent)) }
     ensures fits { result.end ≤ length out.old }
     ensures counts { (result.kept ≤ kept_characters) × (result.lines ≤ desk.lines + length text.now) }
+    ensures same { Same lent }
 {
-    let n = text.len();
     let mut here = desk;
-    let mut i = 0;
-    while i < n {
-        let character = text[i];
-        i += 1;
-        if character == LINE_FEED {
-            let heard = go_on(here, line, &text[i..], flash, sram, usd, out);
-            let next = heard.desk;
-            here = next;
-            i += heard.characters;
+    let mut left = text;
+    while let [character, rest @ ..] = left {
+        left = rest;
+        if *character == LINE_FEED {
+            let heard = go_on(here, line, rest, lent, out);
+            here = heard.desk;
+            left = &rest[heard.characters..];
             continue;
         }
         let kept = here.kept;
-        here.kept = keep(line, kept, character);
+        here.kept = keep(line, kept, *character);
     }
     here
 }
 
 // Answers at the end of the input a line that has begun.
-pub fn finish(
-    desk: Desk,
-    line: &[u8],
-    flash: &mut [u8],
-    sram: &mut [u8],
-    usd: &mut [u8],
-    out: &mut [u8],
-) -> Desk
+pub fn finish(desk: Desk, line: &[u8], lent: &mut Lent<'_>, out: &mut [u8]) -> Desk
     requires kept_in_bounds { desk.kept ≤ length line.now }
     requires lines_bound { desk.lines + 1 < 2 ^ 64 }
     requires kept_in_bounds_2 { desk.end + answer_room desk.kept ≤ length out.old }
-    ensures told { Tells (input_ends (desk_of desk line.now (were flash sram usd))) desk.end out.old
-        result.end out.new (desk_of result line.now (are flash sram usd)) }
+    ensures told { Tells (input_ends (desk_of desk line.now (had lent))) desk.end out.old
+        result.end out.new (desk_of result line.now (has lent)) }
     ensures fits { result.end ≤ length out.old }
+    ensures same { Same lent }
 {
     if 0 < desk.kept {
-        end_line(desk, line, flash, sram, usd, out)
+        end_line(desk, line, lent, out)
     } else {
         desk
     }

@@ -1,4 +1,6 @@
 // Reads a host's lines and writes the answers, over a reader and a writer: what is read and written is not proved, what is done with it is.
+// Kept: flash, SRAM and user system data are passed side by side here. Behind a `lent: &mut Lent` a call promises that the same slices are lent (`Same`),
+// and not that they keep their lengths, which `Fits` asks of what `tell` is lent (tried: `tell-requires` stayed open in `turn` and in `get_up`).
 #![tactic(auto)]
 
 ghost use Rattle.std.specs.Prelude.{◌≡◌, true, ◌+◌, ◌^◌, ◌≤◌, ◌<◌, length, IsErr, OnOk, OnErr};
@@ -13,8 +15,10 @@ use boot::Session;
 use desk_answers::CHARACTER_ROOM;
 use desk_hearing::{Desk, KEPT_CHARACTERS, finish, hear};
 use files::system::System;
+use keeping::room::MEMORIES_BYTES;
 use keeping::turns::MOST;
 use keeping::{Untold, begin, fresh, tell};
+use memories::Lent;
 use std::io::{Read, Write};
 
 // How many characters are read at most at once.
@@ -63,10 +67,12 @@ fn turn<R: System, F: Read, W: Write>(
 {
     let mut input = [0u8; READ_CHARACTERS];
     let n = files::read_once(from, &mut input);
-    *desk = hear(*desk, &input[..n], line, flash, sram, usd, out);
+    let mut lent = Lent { flash, sram, usd };
+    *desk = hear(*desk, &input[..n], line, &mut lent, out);
     let end = desk.end;
     desk.end = 0;
-    tell(rt, name, flash, sram, usd, kept, to, &out[..end])?;
+    let lent = Lent { flash, sram, usd };
+    tell(rt, name, &lent, kept, to, &out[..end])?;
     Ok(0 < n)
 }
 
@@ -125,9 +131,11 @@ fn get_up<R: System, W: Write>(
     ensures untold { OnErr told (IsErr result) }
     ensures kept { OnOk result (Kept name.now (are flash sram usd) kept.new) }
 {
-    *desk = finish(*desk, line, flash, sram, usd, out);
+    let mut lent = Lent { flash, sram, usd };
+    *desk = finish(*desk, line, &mut lent, out);
     told?;
-    tell(rt, name, flash, sram, usd, kept, to, &out[..desk.end])
+    let lent = Lent { flash, sram, usd };
+    tell(rt, name, &lent, kept, to, &out[..desk.end])
 }
 
 // Reads until the input ends, answers a last line that has no LF, and hands back the desk that is left; where something could not be kept or written,
@@ -175,8 +183,13 @@ pub fn run<R: System, F: Read, W: Write>(rt: &R, why: bool, name: &[u8], from: &
     let mut flash = fresh::flash();
     let mut sram = fresh::sram();
     let mut usd = fresh::usd();
-    let mut kept = keeping::room::empty();
-    let begun = begin(rt, name, &mut flash, &mut sram, &mut usd, &mut kept);
+    let mut kept = words::zeros::<MEMORIES_BYTES>();
+    let mut lent = Lent {
+        flash: &mut flash,
+        sram: &mut sram,
+        usd: &mut usd,
+    };
+    let begun = begin(rt, name, &mut lent, &mut kept);
     if begun.is_err() {
         return; // why is said
     }

@@ -46,9 +46,8 @@ pub fn add(text: &[u8], out: &mut [u8], at: usize) -> usize
     requires { at + length text.now ≤ length out.old }
     ensures { Adds out.old at result out.new text.now }
 {
-    let n = text.len();
-    words::copy(out, at, text, 0, n);
-    at + n
+    words::lay(out, at, text);
+    at + text.len()
 }
 
 // Prints the bytes of a reply, each after one space, and tells where they end.
@@ -97,7 +96,7 @@ fn frame(frame: &[u8], out: &mut [u8], at: usize) -> usize
     let dlc = frame[2];
     let [middle, last] = digits(low);
     let begun = add(&[SPACE, digit(high % 16), middle, last, COLON], out, at);
-    let end = frames::HEAD + words::least(dlc as usize, frames::CLASSIC);
+    let end = frames::HEAD + usize::from(dlc).min(frames::CLASSIC);
     unspaced(&frame[frames::HEAD..end], out, begun)
 }
 

@@ -1,25 +1,24 @@
 -- What each exported call promises: every part of what it gives back and every byte lent.
-use Rattle.std.specs.Prelude.{ℕ, ◌≡◌, List}
+use Rattle.std.specs.Prelude.{ℕ, ◌≡◌, List, Err}
 use Rattle.std.specs.Prelude.{if◌then◌else◌}
 use Rattle.memories.specs.Memories.{Memories}
 use Rattle.boot.specs.Session.{fresh}
-use Rattle.boot.specs.Causes.{cause_no, accepts}
+use Rattle.boot.specs.Causes.{Judged, accepted, cause_no, accepts}
 use Rattle.boot.specs.Calls.{Outcome}
 use Rattle.boot.specs.Promise.{left, Leaves}
 use Rattle.boot.specs.Slices.{GivenBytes, slice_outcome}
-use Rattle.boot.specs.declared.Cause.{Cause}
-use Rattle.boot.specs.declared.Cause.TheVariants.{Accepted, UnsoundSession}
+use Rattle.boot.specs.declared.Cause.TheVariants.{UnsoundSession}
 use Rattle.boot.specs.declared.Session.{Session}
 use Rattle.boot.specs.declared.Taken.{Taken}
 use Rattle.session_bytes.specs.Sessions.{session_bytes, holds_session, session_in}
 
 -- the slice of a session after a call: the next session where it was accepted, and else what was lent
-abbrev pub handed_on : Cause → Session → List ℕ → List ℕ
+abbrev pub handed_on : Judged → Session → List ℕ → List ℕ
 handed_on c s lent = if accepts c then session_bytes s else lent
 
 -- power on is refused only for a slice that has not the length of a session
-abbrev pub power_cause : List ℕ → Cause
-power_cause lent = if holds_session lent then Accepted else UnsoundSession
+abbrev pub power_cause : List ℕ → Judged
+power_cause lent = if holds_session lent then accepted else Err UnsoundSession
 
 -- power on writes a fresh session
 pub record PowersOn (lent : List ℕ) (n : ℕ) (after : List ℕ) : Type 0 where

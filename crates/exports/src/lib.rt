@@ -1,4 +1,5 @@
 // The calls of the board for programs in Rust and C, over slices of bytes that the caller lends.
+// Kept: three memories and four numbers lent one by one, as include/oilthicket.h has them.
 #![tactic(auto)]
 
 ghost use Rattle.memories.specs.Lent.{were, are};

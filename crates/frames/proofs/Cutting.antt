@@ -5,12 +5,11 @@ use Prim.Native.Nat.{ℕ, zero, suc, ◌+◌, ◌*◌, ◌-◌, ◌/◌, ◌%◌
 use native.Mathlib.Nat.{min-le_left, add_comm, mul-suc}
 use native.Mathlib.Omega.{arith}
 use lib.ListN.{length, take, drop, replicate, length-append, length-take, length-drop, length-replicate}
-use lib.Seq.{take_all}
 use Rattle.words.specs.Lists.{cut_up_to, cut, singly}
 use Rattle.words.specs.Over.{put}
-use Rattle.words.proofs.Pieces.{cut_more, next_piece}
+use Rattle.words.proofs.Pieces.{cut_chunk}
 use Rattle.words.proofs.Over.{put_then}
-use Rattle.frames.specs.Frames.{Kind, of_size, classic, largest_byte, head_bytes, frame_bytes, frame, frames, framed}
+use Rattle.frames.specs.Frames.{Kind, of_size, classic, head_bytes, frame_bytes, frame, frames, framed}
 
 -- ---- how long frames are
 
@@ -64,32 +63,26 @@ length-singly [] = refl
 length-singly (x ∷ xs) = ap suc (length-singly xs)
 
 -- ---- a frame as it is written: its head, its bytes, and zeros
-pub frame_written_lem : (m : List ℕ) (at id size : ℕ) (l : List ℕ) → length l ≤ largest_byte
-    → put (put (put m at (id / 256 % 256 ∷ id % 256 ∷ length l % 256 ∷ [])) (at + head_bytes) (take (length l) l)) (at + head_bytes + length l) (replicate (size - length l) 0)
+pub frame_written : (m : List ℕ) (at id size : ℕ) (l : List ℕ)
+    → put (put (put m at (id / 256 % 256 ∷ id % 256 ∷ length l ∷ [])) (at + head_bytes) l) (at + head_bytes + length l) (replicate (size - length l) 0)
     ≡ put m at (frame (of_size size) id l)
-frame_written_lem m at id size l h =
+frame_written m at id size l =
     let a : id / 1 % 256 ≡ id % 256 = omega arith in
-    let b : length l % 256 ≡ length l = omega arith in
     let head = id / 256 % 256 ∷ id % 256 ∷ length l ∷ [] in
-    rw (a, b, take_all (length l) l (omega arith), put_then m at (at + head_bytes) head l (omega arith), put_then m at (at + head_bytes + length l) (head ++ l) (replicate (size - length l) 0) (omega arith)) refl
+    rw (a, put_then m at (at + head_bytes) head l (omega arith), put_then m at (at + head_bytes + length l) (head ++ l) (replicate (size - length l) 0) (omega arith)) refl
 
 -- ---- a turn: one frame is written, and what remains is left
-pub record Turn (k : Kind) (id : ℕ) (s : List ℕ) (n i m : ℕ) : Type 0 where
-  pub next : i < m
-  pub within : m ≤ length s
-  pub fits : length (take (m - i) (drop i s)) ≤ k.largest
-  pub long : length (frame k id (take (m - i) (drop i s))) ≡ head_bytes + k.largest
-  pub first : frames k id (cut n (drop i s)) ≡ frame k id (take (m - i) (drop i s)) ++ frames k id (cut n (drop m s))
+pub record Turn (k : Kind) (id n : ℕ) (rest p l : List ℕ) : Type 0 where
+  pub fits : length p ≤ k.largest
+  pub long : length (frame k id p) ≡ head_bytes + k.largest
+  pub first : frames k id (cut n rest) ≡ frame k id p ++ frames k id (cut n l)
+  pub both : length (frames k id (cut n rest)) ≡ head_bytes + k.largest + length (frames k id (cut n l))
 
-pub turn : (k : Kind) (id : ℕ) (s : List ℕ) (n i r : ℕ) → r ≡ min (length s - i) n → i < length s → 0 < n → n ≤ k.largest → Turn k id s n i (r + i)
-turn k id s n i r e h p l =
-    let t = next_piece s i n h p in
-    let m = min-le_left n (length (drop i s)) in
-    let f : length (take n (drop i s)) ≤ k.largest = rw (length-take n (drop i s)) (omega arith) in
-    rw e (record {
-      next = t.2;
-      within = t.3;
-      fits = rw t.0 f;
-      long = rw t.0 (length-frame k id (take n (drop i s)) f);
-      first = rw (t.0, t.1, cut_more n (drop i s) p (let d = length-drop i s in omega arith)) refl;
-    })
+pub turn : (k : Kind) (id n : ℕ) (rest p l : List ℕ) → 0 < n → n ≤ k.largest → rest ≡ p ++ l → length p ≡ min n (length rest) → 0 < length rest
+    → Turn k id n rest p l
+turn k id n rest p l z f e m h =
+    let fits : length p ≤ k.largest = omega (arith, min-le_left n (length rest)) in
+    let long = length-frame k id p fits in
+    let first : frames k id (cut n rest) ≡ frame k id p ++ frames k id (cut n l) =
+    rw e (ap (λ (ls : List (List ℕ)). frames k id ls) (cut_chunk n p l z (rw e at h) (rw e at m))) in
+    record { fits = fits; long = long; first = first; both = ap length first ∙ length-append (frame k id p) (frames k id (cut n l)) ∙ ap (λ (j : ℕ). j + length (frames k id (cut n l))) long }

@@ -2,6 +2,7 @@
 use Rattle.std.specs.Prelude.{ℕ, ◌+◌, ◌-◌, Bool, ◌&&◌, List, [], ◌∷◌, ◌++◌, length, get_or, take, drop, replicate, eqb, leb}
 use Rattle.words.specs.Bytes.{number, two_bytes}
 use Rattle.words.specs.Lists.{cut}
+use Rattle.frames.specs.declared.Counted.{Counted}
 
 -- a kind of frame: how many data bytes its largest frame carries
 pub record Kind : Type 0 where
@@ -55,6 +56,10 @@ counted f = record { id = f.id; dlc = f.dlc; bytes = carried f }
 -- the frame of an ID and of data bytes that all count
 abbrev pub frame_of : ℕ → List ℕ → Frame
 frame_of id l = record { id = id; dlc = length l; bytes = l }
+
+-- the frame that is handed on with its data bytes lent
+abbrev pub counted_of : Counted → Frame
+counted_of f = frame_of f.id f.carried.now
 
 -- a slice holds a frame of a kind
 abbrev pub is_frame : Kind → List ℕ → Bool

@@ -12,9 +12,9 @@ pub fn put_frame(id: u16, bytes: &[u8], size: usize, buffer: &mut [u8], at: usiz
     ensures { buffer.new ≡ put buffer.old at (frame (of_size size) id bytes.now) }
 {
     let n = bytes.len();
-    let head = [(id / 256 % 256) as u8, (id % 256) as u8, (n % 256) as u8];
-    words::copy(buffer, at, &head, 0, HEAD);
-    words::copy(buffer, at + HEAD, bytes, 0, n);
+    let [high, low] = id.to_be_bytes();
+    words::lay(buffer, at, &[high, low, n as u8]);
+    words::lay(buffer, at + HEAD, bytes);
     words::fill(buffer, at + HEAD + n, size - n, 0);
 }
 
@@ -27,18 +27,15 @@ pub fn put_frames(
     buffer: &mut [u8],
     at: usize,
 ) -> usize
-    requires { (0 < piece) × (piece ≤ size) × (size ≤ largest_byte) × (at + length (frames (of_size size) id (cut piece bytes.now)) ≤ length buffer.old) }
+    requires { (0 < piece) × (piece ≤ size) × (size ≤ largest_byte)
+        × (at + length (frames (of_size size) id (cut piece bytes.now)) ≤ length buffer.old) }
     ensures { (result ≡ at + length (frames (of_size size) id (cut piece bytes.now)))
         × (buffer.new ≡ put buffer.old at (frames (of_size size) id (cut piece bytes.now))) }
 {
-    let n = bytes.len();
     let mut end = at;
-    let mut i = 0;
-    while i < n {
-        let next = words::least(n - i, piece) + i;
-        put_frame(id, &bytes[i..next], size, buffer, end);
+    for part in bytes.chunks(piece) {
+        put_frame(id, part, size, buffer, end);
         end += HEAD + size;
-        i = next;
     }
     end
 }

@@ -5,7 +5,6 @@ use Prim.Native.Nat.{ℕ, zero, suc, ◌+◌, ◌-◌, ◌*◌, ◌≤◌}
 use native.Mathlib.Omega.{arith}
 use lib.Bits.{xor_zero_l}
 use lib.ListN.{length, take, drop, length-append}
-use Rattle.std.proofs.Math.Seq.{take-length}
 use Rattle.words.specs.Bytes.{complement, xor_from, xor_all, two_bytes}
 use Rattle.words.specs.Over.{put}
 use Rattle.words.proofs.Over.{put_then, at_front}
@@ -75,11 +74,11 @@ behind_two (x ∷ y ∷ m) a b l n e h = at_front l m n e (omega arith)
 -- the same, where the checksum is taken of what stands behind the two command bytes
 pub erase_in_room : (m : List ℕ) (k d n : ℕ) → n ≡ 2 + 2 * (d + 1) → 4 + 2 * (d + 1) ≤ length m
     → (r : List ℕ) → r ≡ put (put m 0 (command_part Erase ++ two_bytes d)) 4 (numbers_of (sectors_from (sector k) (d + 1)))
-    → put r (4 + 2 * (d + 1)) (xor_from 0 (take (length (take n (drop 2 r))) (take n (drop 2 r))) ∷ []) ≡ put m 0 (erase_command (sectors_from (sector k) (d + 1)))
+    → put r (4 + 2 * (d + 1)) (xor_from 0 (take n (drop 2 r)) ∷ []) ≡ put m 0 (erase_command (sectors_from (sector k) (d + 1)))
 erase_in_room m k d n e h r f =
     let ns = numbers_of (sectors_from (sector k) (d + 1)) in
     let l = length-numbers k (d + 1) in
     let g : r ≡ put m 0 ((command_part Erase ++ two_bytes d) ++ ns) = f ∙ put_then m 0 4 (command_part Erase ++ two_bytes d) ns refl in
     let t : take n (drop 2 r) ≡ two_bytes d ++ ns = rw g (behind_two m 68 187 (two_bytes d ++ ns) n (omega arith) (omega arith)) in
     let o : d + 1 - 1 ≡ d = omega arith in
-    rw (take-length (take n (drop 2 r)), t, f) (rw o at (erase_in_parts m k (d + 1)))
+    rw (t, f) (rw o at (erase_in_parts m k (d + 1)))

@@ -1,4 +1,5 @@
 // Judges what a board has answered.
+// Kept: over one function, `acked::<3>(reply)` and `acked::<2>(reply)`, these two lines would be three functions.
 ghost use Rattle.host.specs.Promise.{done_reply, erased_reply, Judges};
 
 use reply::ACK;

@@ -1,4 +1,5 @@
 // Puts a command at the front of a room that is long enough for any.
+// Kept: with a struct for such a room each call would wrap and unwrap it, and each clause say `room.old.bytes.now` in place of `room.old`.
 ghost use Rattle.std.specs.Prelude.{◌≡◌, ◌+◌, ◌≤◌, ◌<◌, length};
 ghost use Rattle.words.specs.Over.{put};
 ghost use Rattle.board.specs.Board.{flash, sectors};
@@ -27,10 +28,10 @@ pub fn put_write(image: &[u8], offset: usize, n: usize, room: &mut [u8]) -> usiz
     let less = (n - 1) as u8;
     let head = head(code::WRITE_MEMORY, offset, less);
     let data = &image[offset..offset + n];
-    let sum = [words::xor_from(less, data, n)];
-    words::copy(room, 0, &head, 0, HEAD);
-    words::copy(room, HEAD, data, 0, n);
-    words::copy(room, HEAD + n, &sum, 0, 1);
+    let sum = words::xor(less, data);
+    words::lay(room, 0, &head);
+    words::lay(room, HEAD, data);
+    words::lay(room, HEAD + n, &[sum]);
     HEAD + n + 1
 }
 
@@ -44,8 +45,8 @@ pub fn put_read(offset: usize, n: usize, room: &mut [u8]) -> usize
     let less = (n - 1) as u8;
     let head = head(code::READ_MEMORY, offset, less);
     let complement = [!less];
-    words::copy(room, 0, &head, 0, HEAD);
-    words::copy(room, HEAD, &complement, 0, 1);
+    words::lay(room, 0, &head);
+    words::lay(room, HEAD, &complement);
     HEAD + 1
 }
 
@@ -58,7 +59,7 @@ fn put_numbers(first: u16, x: u16, room: &mut [u8])
     for i in 0..x {
         let number = (first + i).to_be_bytes();
         let at = NUMBERS_AT + Sector::NUMBER_BYTES * usize::from(i);
-        words::copy(room, at, &number, 0, Sector::NUMBER_BYTES);
+        words::lay(room, at, &number);
     }
 }
 
@@ -73,11 +74,10 @@ pub fn put_erase(offset: usize, count: usize, room: &mut [u8]) -> usize
     let last = Sector::at(offset + count - 1).0;
     let less = (last - first).to_be_bytes();
     let command = [code::ERASE, !code::ERASE, less[0], less[1]];
-    words::copy(room, 0, &command, 0, NUMBERS_AT);
+    words::lay(room, 0, &command);
     put_numbers(first, last - first + 1, room);
     let end = NUMBERS_AT + Sector::NUMBER_BYTES * (usize::from(last - first) + 1);
-    let numbers = &room[COMPLEMENTED_BYTE..end];
-    let sum = [words::xor_from(0, numbers, numbers.len())];
-    words::copy(room, end, &sum, 0, 1);
+    let sum = words::xor(0, &room[COMPLEMENTED_BYTE..end]);
+    words::lay(room, end, &[sum]);
     end + 1
 }

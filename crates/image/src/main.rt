@@ -2,7 +2,7 @@
 #![tactic(auto)]
 
 use files::system::System;
-use image_files::{Shift, arguments, making};
+use image_files::{arguments, making};
 use std::env::FillError;
 
 // Makes the image with a shift, from the old image that the last argument names, if it is there.
@@ -19,10 +19,9 @@ fn make<R: System>(rt: &R, file: &[u8], new: &[u8], shift: i16) {
 
 // Makes the image with the shift that an argument writes.
 fn make_shifted<R: System>(rt: &R, file: &[u8], new: &[u8], number: &[u8]) {
-    let shift = arguments::shift(number);
-    match shift {
-        Shift::By(by) => make(rt, file, new, by),
-        Shift::NoShift => rt.complain(b"SHIFT: a whole number from -32768 to 32767\n"),
+    match arguments::shift(number) {
+        Some(shift) => make(rt, file, new, shift),
+        None => rt.complain(b"SHIFT: a whole number from -32768 to 32767\n"),
     }
 }
 

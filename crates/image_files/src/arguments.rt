@@ -1,31 +1,16 @@
 // Numbers that arguments write.
-ghost use Rattle.std.specs.Prelude.{◌≡◌, true, ◌≤◌, length};
+ghost use Rattle.std.specs.Prelude.{◌≡◌, true, IsTrue, ◌≤◌, ◌<◌, eqb, length, get_or};
 ghost use Rattle.words.specs.Lists.{all};
-ghost use Rattle.image_files.specs.Arguments.{is_decimal, value_from, number_in, shift_in};
-ghost use Rattle.image_files.specs.Arguments.{forward as Arguments·forward, backward as Arguments·backward};
-
-use crate::{Number, Shift};
+ghost use Rattle.image_files.specs.Arguments.{is_decimal, value_from, number_in, minus, shift_by, shift_in};
 
 // The most digits of a number.
 const DIGITS: usize = 5;
-
-// The largest shift forward, and the largest backward.
-const FORWARD: u32 = 32767;
-
-const BACKWARD: u32 = 32768;
 
 // Whether every character is a decimal digit.
 fn are_decimal(text: &[u8]) -> bool
     ensures { result ≡ all is_decimal text.now }
 {
-    let n = text.len();
-    let mut good = true;
-    let mut i = 0;
-    while i < n {
-        good = good & ((b'0' <= text[i]) & (text[i] <= b'9'));
-        i += 1;
-    }
-    good
+    text.iter().all(|c| (b'0' <= *c) & (*c <= b'9'))
 }
 
 // The number that at most five decimal digits write.
@@ -33,77 +18,46 @@ fn value(digits: &[u8]) -> u32
     requires { (all is_decimal digits.now ≡ true) × (length digits.now ≤ 5) }
     ensures { result ≡ value_from 0 digits.now }
 {
-    let n = digits.len();
     let mut value: u32 = 0;
-    let mut i = 0;
-    while i < n {
-        value = value * 10 + (digits[i] - b'0') as u32;
-        i += 1;
+    for digit in digits {
+        value = value * 10 + u32::from(*digit - b'0');
     }
     value
 }
 
-// The number that a text writes.
-pub fn number(text: &[u8]) -> Number
+// The number that a text writes, if it writes one.
+pub fn number(text: &[u8]) -> Option<u32>
     ensures { result ≡ number_in text.now }
 {
     let n = text.len();
-    if n < 1 {
-        return Number::Wrong;
-    }
-    if DIGITS < n {
-        return Number::Wrong;
-    }
-    let decimal = are_decimal(text);
-    if !decimal {
-        return Number::Wrong;
-    }
-    Number::Is(value(text))
+    let writes = (1 <= n) & (n <= DIGITS) & are_decimal(text);
+    if writes { Some(value(text)) } else { None }
 }
 
-// A shift forward by a number.
-fn forward(number: Number) -> Shift
-    ensures { result ≡ Arguments·forward number }
+// The shift by a number behind a minus or without one, if it is within its limit.
+fn shift_by(number: u32, minus: bool) -> Option<i16>
+    ensures { result ≡ shift_by minus number }
 {
-    match number {
-        Number::Is(n) => {
-            if n <= FORWARD {
-                Shift::By(n as i16)
-            } else {
-                Shift::NoShift
-            }
-        }
-        Number::Wrong => Shift::NoShift,
-    }
+    let by = i64::from(number);
+    i16::try_from(if minus { -by } else { by }).ok()
 }
 
-// A shift backward by a number.
-fn backward(number: Number) -> Shift
-    ensures { result ≡ Arguments·backward number }
+// Whether a text begins with a minus.
+fn is_negative(text: &[u8]) -> bool
+    ensures minus { result ≡ eqb (get_or text.now 0 0) minus }
+    ensures there { IsTrue result → 0 < length text.now }
 {
-    match number {
-        Number::Is(n) => {
-            if n <= BACKWARD {
-                let m = n as i64;
-                Shift::By((0 - m) as i16)
-            } else {
-                Shift::NoShift
-            }
-        }
-        Number::Wrong => Shift::NoShift,
-    }
+    matches!(text, [b'-', ..])
 }
 
-// The shift that a text writes.
-pub fn shift(text: &[u8]) -> Shift
+// The shift that a text writes, if it writes one.
+pub fn shift(text: &[u8]) -> Option<i16>
     ensures { result ≡ shift_in text.now }
 {
-    if text.len() < 1 {
-        return Shift::NoShift;
-    }
-    let minus = text[0] == b'-';
+    let minus = is_negative(text);
     if minus {
-        return backward(number(&text[1..]));
+        shift_by(number(&text[1..])?, true)
+    } else {
+        shift_by(number(text)?, false)
     }
-    forward(number(text))
 }

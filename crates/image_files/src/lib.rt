@@ -3,17 +3,3 @@
 
 pub mod arguments;
 pub mod making;
-
-// A number that an argument writes, or none.
-#[derive(Clone, Copy)]
-pub enum Number {
-    Is(u32),
-    Wrong,
-}
-
-// A load shift that an argument writes, or none.
-#[derive(Clone, Copy)]
-pub enum Shift {
-    By(i16),
-    NoShift,
-}

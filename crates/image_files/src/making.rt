@@ -64,15 +64,13 @@ fn load_and_save<R: System>(
         return;
     }
     let mut out = said_room();
-    let told = image_says::load(name, text, shift, image, &mut out);
-    let end = told.length;
-    if !told.accepted {
-        rt.complain(&out[..end]);
-        return;
-    }
-    let saved = files::save(rt, new, image);
-    if saved.is_ok() {
-        let _ = rt.write_all(&out[..end]);
+    match image_says::load(name, text, shift, image, &mut out) {
+        Ok(end) => {
+            if files::save(rt, new, image).is_ok() {
+                let _ = rt.write_all(&out[..end]);
+            }
+        }
+        Err(end) => rt.complain(&out[..end]),
     }
 }
 

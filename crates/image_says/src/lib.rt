@@ -10,6 +10,8 @@ ghost use Rattle.words.specs.Over.{put};
 ghost use Rattle.loading.specs.Loads.{answer_to, image_after};
 ghost use Rattle.image_says.specs.Messages.{message_to, told};
 
+use loading::Refused;
+
 // How many bytes were loaded, and into how many sectors.
 #[derive(Clone, Copy)]
 pub struct Tally {
@@ -19,6 +21,16 @@ pub struct Tally {
 
 // The room for what is said, beside the name of the file.
 pub const ROOM: usize = 160;
+
+// How many characters are said, of a file that is accepted or of one that is refused.
+fn told(answer: Result<(), Refused>, length: usize) -> Result<usize, usize>
+    ensures { result ≡ told answer length }
+{
+    match answer {
+        Ok(()) => Ok(length),
+        Err(_) => Err(length),
+    }
+}
 
 // Loads the S-records of a text into an image, as `loading::load` does, and says of the file with a name how that went: how many characters
 // that is, of a file that is accepted or of one that is refused.
@@ -40,8 +52,5 @@ pub fn load(
     let tally = counting::tally(&touched);
     let short = text::is_short_at(text, text::line_in(answer));
     let length = text::message(name, answer, tally, short, out);
-    match answer {
-        Ok(()) => Ok(length),
-        Err(_) => Err(length),
-    }
+    told(answer, length)
 }

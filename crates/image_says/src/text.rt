@@ -137,11 +137,12 @@ fn is_short_line(line: &[u8]) -> bool
 }
 
 // Whether the line of a number is an S1 or an S2 record.
-fn is_short(text: &[u8], number: usize) -> bool
+pub fn is_short(text: &[u8], number: usize) -> bool
     ensures { result ≡ is_short (line_numbered number text.now) }
 {
     let mut left = number;
     let mut at = 0;
+    // Kept: text.split(|c| *c == LINE_FEED) gives one line more behind a last LF, and leaves the CR in a line; line_at gives the lines of R9.
     while at < text.len() {
         let span = ends::line_at(text, at);
         let here = left <= 1;

@@ -5,22 +5,10 @@
 ghost use Rattle.std.specs.Prelude.{◌+◌, ◌^◌, ◌≤◌, ◌<◌, length};
 
 use files::system::System;
-use image_files::{Number, Shift, arguments, making};
+use image_files::{arguments, making};
 
 // How many bytes a row has.
 const ROW: usize = 16;
-
-// Whether two rows hold the same bytes.
-fn same(a: &[u8], b: &[u8]) -> bool {
-    let n = words::least(a.len(), b.len());
-    let mut equal = a.len() == b.len();
-    let mut i = 0;
-    while i < n {
-        equal = equal & (a[i] == b[i]);
-        i += 1;
-    }
-    equal
-}
 
 // Prints a row: the offset of its first byte, and its bytes.
 fn print_row<R: System>(rt: &R, at: usize, row: &[u8]) {
@@ -38,24 +26,13 @@ fn print_row<R: System>(rt: &R, at: usize, row: &[u8]) {
     let _ = rt.write_all(b"\n");
 }
 
-// Prints the row at a place, if it has changed.
-fn print_changed<R: System>(rt: &R, before: &[u8], after: &[u8], at: usize, end: usize)
-    requires { (at ≤ end) × (end ≤ length before.now) × (end ≤ length after.now) }
-{
-    if same(&before[at..end], &after[at..end]) {
-        return;
-    }
-    print_row(rt, at, &after[at..end]);
-}
-
 // Prints the rows that have changed.
 fn print_rows<R: System>(rt: &R, before: &[u8], after: &[u8]) {
-    let n = words::least(before.len(), after.len());
-    let mut at = 0;
-    while at < n {
-        let end = at + words::least(ROW, n - at);
-        print_changed(rt, before, after, at, end);
-        at = end;
+    let rows = before.chunks(ROW).zip(after.chunks(ROW)).enumerate();
+    for (k, (old, new)) in rows {
+        if old != new {
+            print_row(rt, k * ROW, new);
+        }
     }
 }
 
@@ -68,11 +45,12 @@ fn load<R: System>(rt: &R, name: &[u8], text: &[u8], shift: i16, bytes: usize, i
         return;
     }
     let mut before = making::erased();
-    let kept = words::least(before.len(), image.len());
-    words::copy(&mut before, 0, image, 0, kept);
+    let kept = before.len().min(image.len());
+    before[..kept].copy_from_slice(&image[..kept]);
     let mut out = making::said_room();
-    let told = image_says::load(name, text, shift, &mut image[..bytes], &mut out);
-    let end = told.length;
+    let end = match image_says::load(name, text, shift, &mut image[..bytes], &mut out) {
+        Ok(end) | Err(end) => end,
+    };
     let _ = rt.write_all(&out[..end]);
     print_rows(rt, &before, image);
 }
@@ -81,22 +59,14 @@ fn load<R: System>(rt: &R, name: &[u8], text: &[u8], shift: i16, bytes: usize, i
 fn shift_at<R: System>(rt: &R, i: usize) -> i16 {
     let mut word = io::buffer();
     let n = files::argument(rt, i, b"SHIFT", &mut word).unwrap_or(0);
-    let shift = arguments::shift(&word[..n]);
-    match shift {
-        Shift::By(by) => by,
-        Shift::NoShift => 0,
-    }
+    arguments::shift(&word[..n]).unwrap_or(0)
 }
 
 // The number that argument i writes; none that it writes is 0.
 fn number_at<R: System>(rt: &R, i: usize) -> usize {
     let mut word = io::buffer();
     let n = files::argument(rt, i, b"BYTES", &mut word).unwrap_or(0);
-    let number = arguments::number(&word[..n]);
-    match number {
-        Number::Is(value) => value as usize,
-        Number::Wrong => 0,
-    }
+    arguments::number(&word[..n]).map_or(0, |number| number as usize)
 }
 
 // Loads the file of the three arguments from i on.
@@ -126,9 +96,7 @@ fn load_three<R: System>(rt: &R, i: usize, image: &mut [u8])
 fn main(rt: HostRuntime) {
     let mut image = making::erased();
     let threes = files::argument_count(&rt) / 3;
-    let mut k = 0;
-    while k < threes {
+    for k in 0..threes {
         load_three(&rt, 3 * k + 1, &mut image);
-        k += 1;
     }
 }

@@ -1,7 +1,10 @@
 // Erase: what its selector asks for, and whether the listed sectors, or all of flash, may be erased.
-ghost use Rattle.std.specs.Prelude.{◌≡◌, ◌≤◌, T, length};
+ghost use Rattle.std.specs.Prelude.{◌≡◌, ◌≤◌, length, take};
+ghost use Rattle.std.specs.List.{list_all, list_any};
+ghost use Rattle.std.specs.Simd.{first_chunks};
+ghost use Rattle.words.specs.Bytes.{number};
 ghost use Rattle.words.specs.Lists.{any, all};
-ghost use Rattle.board.specs.Quantities.{is_sector, numbers_bytes, first_numbered};
+ghost use Rattle.board.specs.Quantities.{sector, is_sector, selector_bytes, numbers_bytes, first_numbered};
 ghost use Rattle.board.specs.View.{write_protected};
 ghost use Rattle.rules.specs.Rules.{selector_of, erase_verdict, erasing, erase_all_verdict};
 
@@ -36,39 +39,51 @@ pub fn selector_of(number: u16) -> Selector
     }
 }
 
+// The sector that a two-byte number names.
+fn numbered(bytes: &[u8; Sector::NUMBER_BYTES]) -> Sector
+    ensures { result ≡ sector (number bytes.now) }
+{
+    Sector(words::number2(bytes[0], bytes[1]))
+}
+
+// The first x two-byte numbers that are staged.
+fn numbers(staged: &[u8], x: usize) -> &[[u8; Sector::NUMBER_BYTES]]
+    requires { numbers_bytes x ≤ length staged.now }
+    ensures { result.now ≡ first_chunks selector_bytes x (take (numbers_bytes x) staged.now) }
+{
+    staged[..Sector::NUMBER_BYTES * x].as_chunks().0
+}
+
+// Whether some two-byte numbers are all those of sectors of the board.
+fn all_exist(numbers: &[[u8; Sector::NUMBER_BYTES]]) -> bool
+    ensures { result ≡ list_all (λ n. is_sector (sector (number n))) numbers.now }
+{
+    numbers.iter().all(|bytes| numbered(bytes).exists())
+}
+
+// Whether one of some two-byte numbers names a write-protected sector.
+fn any_protected(view: View, numbers: &[[u8; Sector::NUMBER_BYTES]]) -> bool
+    ensures { result ≡ list_any (λ n. write_protected view (sector (number n))) numbers.now }
+{
+    numbers
+        .iter()
+        .any(|bytes| view.write_protected(numbered(bytes)))
+}
+
 // Whether the x staged two-byte numbers are all sectors of the board.
 fn all_numbered(staged: &[u8], x: usize) -> bool
     requires { numbers_bytes x ≤ length staged.now }
     ensures { result ≡ all is_sector (first_numbered x staged.now) }
 {
-    let end = Sector::NUMBER_BYTES * x;
-    let mut j = 0;
-    while j < end {
-        let sector = Sector::numbered(staged, j);
-        let here = sector.exists();
-        if !here {
-            return false;
-        }
-        j += Sector::NUMBER_BYTES;
-    }
-    true
+    all_exist(numbers(staged, x))
 }
 
 // Whether one of the x staged two-byte numbers names a write-protected sector.
 fn any_numbered_protected(view: View, staged: &[u8], x: usize) -> bool
-    requires { (numbers_bytes x ≤ length staged.now) × T (all is_sector (first_numbered x staged.now)) }
+    requires { numbers_bytes x ≤ length staged.now }
     ensures { result ≡ any (write_protected view) (first_numbered x staged.now) }
 {
-    let end = Sector::NUMBER_BYTES * x;
-    let mut j = 0;
-    while j < end {
-        let sector = Sector::numbered(staged, j);
-        if view.write_protected(sector) {
-            return true;
-        }
-        j += Sector::NUMBER_BYTES;
-    }
-    false
+    any_protected(view, numbers(staged, x))
 }
 
 // Whether the x sectors whose numbers are staged may be erased.

@@ -1,28 +1,30 @@
 // Program Protect: whether the listed sectors are sectors of the board.
 ghost use Rattle.std.specs.Prelude.{◌≡◌, ◌≤◌, length};
+ghost use Rattle.std.specs.List.{list_all};
 ghost use Rattle.words.specs.Lists.{all};
-ghost use Rattle.board.specs.Quantities.{is_sector, first_indexed};
+ghost use Rattle.board.specs.Quantities.{sector, is_sector, first_indexed};
 ghost use Rattle.rules.specs.Rules.{protecting};
 
 use board::Sector;
 use command::{Decision, FixedReply, Next, Why};
 use memories::Change;
 
+// Whether some indexes are all those of sectors of the board.
+// Kept: beside `erase::all_exist` (d): over `&[[u8; N]]` both would fold N bytes to a number, where each is one chain now.
+fn all_exist(indexes: &[u8]) -> bool
+    ensures { result ≡ list_all (λ n. is_sector (sector n)) indexes.now }
+{
+    indexes
+        .iter()
+        .all(|index| Sector(u16::from(*index)).exists())
+}
+
 // Whether the x staged indexes are all sectors of the board.
 fn all_indexed(staged: &[u8], x: usize) -> bool
     requires { x ≤ length staged.now }
     ensures { result ≡ all is_sector (first_indexed x staged.now) }
 {
-    let mut i = 0;
-    while i < x {
-        let sector = Sector::indexed(staged, i);
-        let here = sector.exists();
-        if !here {
-            return false;
-        }
-        i += 1;
-    }
-    true
+    all_exist(&staged[..x])
 }
 
 // Protection of the x sectors whose indexes are staged alone, or a refusal.

@@ -1,4 +1,3 @@
-pub mod Shift
 pub mod Places
 pub mod Faults
 pub mod Turns

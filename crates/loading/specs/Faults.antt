@@ -13,7 +13,7 @@ use Rattle.loading.specs.declared.Refused.{Refused}
 -- 0 accepted, 1 wrong image length, 2 bad line, 3 bad checksum, 4 address outside flash, 5 overlap with an earlier line, 6 no ending record
 abbrev pub CauseNumbers : Type 0
 CauseNumbers =
-    map answer_no (Ok tt ∷ map Err (WrongLength ∷ BadLine ∷ BadChecksum ∷ OutsideFlash ∷ Overlap ∷ NoEnd ∷ [])) ≡ 0 ∷ 1 ∷ 2 ∷ 3 ∷ 4 ∷ 5 ∷ 6 ∷ []
+    map answer_no (Ok tt ∷ map (λ c. Err (whole c)) (WrongLength ∷ BadLine ∷ BadChecksum ∷ OutsideFlash ∷ Overlap ∷ NoEnd ∷ [])) ≡ 0 ∷ 1 ∷ 2 ∷ 3 ∷ 4 ∷ 5 ∷ 6 ∷ []
 
 -- a line is an ending record
 abbrev pub is_ending : List ℕ → Bool

@@ -1,6 +1,6 @@
 -- What a file does to an image: document 02, Wish 1.
 use Rattle.std.specs.Prelude.{ℕ, suc, Bool, true, false, not, ◌||◌, List, [], ◌∷◌, eqb, ℤ, length, replicate}
-use Rattle.std.specs.Prelude.{if◌then◌else◌, Option, Some, None, is_none, Result, Ok, Err, is_ok}
+use Rattle.std.specs.Prelude.{if◌then◌else◌, Option, Some, None, is_none, unwrap_or, Result, Ok, Err, is_ok}
 use Rattle.words.specs.Lists.{any, part}
 use Rattle.words.specs.Over.{put}
 use Rattle.board.specs.Board.{flash}
@@ -23,9 +23,14 @@ cause_no OutsideFlash = 4
 cause_no Overlap = 5
 cause_no NoEnd = 6
 
-abbrev pub answer_no : Result (Unit {0}) Cause → ℕ
+abbrev pub answer_no : Result (Unit {0}) Refused → ℕ
 answer_no (Ok accepted) = 0
-answer_no (Err c) = cause_no c
+answer_no (Err r) = cause_no r.cause
+
+-- the number of the line that has the cause, from 1; 0 where no line has it
+abbrev pub line_no : Result (Unit {0}) Refused → ℕ
+line_no (Ok accepted) = 0
+line_no (Err r) = unwrap_or r.line 0
 
 -- a line ends the file
 abbrev pub is_end : Kind → Bool

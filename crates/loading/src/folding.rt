@@ -40,6 +40,7 @@ pub fn fold(text: &[u8], shift: i16, touched: &mut [u8], image: &mut [u8]) -> Re
     let mut ended = false;
     let mut number = 0;
     let mut at = 0;
+    // Kept: text.split(|c| *c == LINE_FEED) gives one line more behind a last LF, and leaves the CR in a line; line_at gives the lines of R9.
     while at < text.len() {
         let span = ends::line_at(text, at);
         number += 1;

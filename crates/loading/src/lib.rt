@@ -7,11 +7,10 @@ pub mod judging;
 pub mod laying;
 pub mod placing;
 
-ghost use Rattle.std.specs.Prelude.{◌≡◌, IfOk, length};
-ghost use Rattle.board.specs.Board.{flash};
+ghost use Rattle.std.specs.Prelude.{◌≡◌, IfOk};
 ghost use Rattle.records.specs.Ends.{lines_of};
 ghost use Rattle.loading.specs.Promise.{Loads};
-ghost use Rattle.loading.specs.Loads.{answer_no, untouched, all_touched};
+ghost use Rattle.loading.specs.Loads.{answer_no, line_no, untouched, all_touched};
 
 use board::Board;
 
@@ -33,28 +32,35 @@ pub struct Refused {
     pub line: Option<usize>,
 }
 
+// The number of a file that is accepted.
+const ACCEPTED: u8 = 0;
+
 // The number of what is answered.
-pub fn number(answer: Result<(), Cause>) -> u8
+pub fn number(answer: Result<(), Refused>) -> u8
     ensures { result ≡ answer_no answer }
 {
     match answer {
-        Ok(()) => 0,
-        Err(cause) => cause as u8,
+        Ok(()) => ACCEPTED,
+        Err(refused) => refused.cause as u8,
     }
 }
 
-// Room for an image, of which only its length counts.
-fn room() -> [u8; Board::FLASH_BYTES]
-    ensures { flash.bytes ≡ length result }
+// The number of the line that has the cause, from 1; 0 where no line has it.
+pub fn line_number(answer: Result<(), Refused>) -> usize
+    ensures { result ≡ line_no answer }
 {
-    [0; Board::FLASH_BYTES]
+    match answer {
+        Ok(()) => 0,
+        Err(refused) => refused.line.unwrap_or(0),
+    }
 }
 
 // The marks before any line: none.
+#[tactic(auto, unfolding(crate::specs::Loads::untouched))]
 pub fn no_marks() -> [u8; Board::FLASH_BYTES]
     ensures { result ≡ untouched }
 {
-    [0; Board::FLASH_BYTES]
+    words::zeros()
 }
 
 // Loads the S-records of a text into an image, a shift added to each address, and marks the bytes that it loads.
@@ -75,7 +81,7 @@ pub fn load_marked(
             line: None,
         });
     }
-    let mut copied = room();
+    let mut copied = words::zeros::<{ Board::FLASH_BYTES }>();
     copied.copy_from_slice(image);
     folding::fold(text, shift, touched, &mut copied)?;
     image.copy_from_slice(&copied);

@@ -64,5 +64,5 @@ impl Lent<'_> {
 pub fn none_staged() -> [u8; STAGED]
     ensures { result ≡ no_bytes }
 {
-    [0; STAGED]
+    words::zeros()
 }

@@ -1,11 +1,11 @@
 // Carries a change of the memories out.
 #![tactic(auto)]
 
-ghost use Rattle.std.specs.Prelude.{◌≡◌, [], ◌+◌, ◌≤◌, T, length, take, replicate};
+ghost use Rattle.std.specs.Prelude.{◌≡◌, [], ◌+◌, ◌≤◌, ◌%◌, T, length, replicate};
 ghost use Rattle.words.specs.Lists.{all};
 ghost use Rattle.words.specs.Over.{put};
-ghost use Rattle.board.specs.Board.{extent_of, sectors};
-ghost use Rattle.board.specs.Quantities.{largest_count, start_of, is_sector, numbers_bytes, first_indexed, first_numbered};
+ghost use Rattle.board.specs.Board.{extent_of};
+ghost use Rattle.board.specs.Quantities.{start_of, is_sector, selector_bytes, indexed, numbered};
 ghost use Rattle.board.specs.declared.Region.TheVariants.{Flash, Usd};
 ghost use Rattle.memories.specs.Lent.{holds, had, has, Same};
 ghost use Rattle.memories.specs.Memories.{proper};
@@ -24,16 +24,16 @@ const RELEASED: u8 = 0xFF;
 // Byte 0 of user system data while protection is on.
 const LOCKED: u8 = 0;
 
-// Writes x staged bytes into a region from an offset on.
-fn write(lent: &mut Lent<'_>, region: Region, at: usize, staged: &[u8; STAGED], x: usize)
-    requires { T (proper (holds lent.old)) × (x ≤ largest_count) × (at + x ≤ (extent_of region).bytes) }
-    ensures left { has lent ≡ written region at (take x staged.now) (had lent) }
+// Writes bytes into a region from an offset on.
+fn write(lent: &mut Lent<'_>, region: Region, at: usize, bytes: &[u8])
+    requires { T (proper (holds lent.old)) × (at + length bytes.now ≤ (extent_of region).bytes) }
+    ensures left { has lent ≡ written region at bytes.now (had lent) }
     ensures same { Same lent }
 {
     match region {
-        Region::Flash => words::join_by_and(lent.flash, at, staged, x),
-        Region::Sram => words::copy(lent.sram, at, staged, 0, x),
-        Region::Usd => words::copy(lent.usd, at, staged, 0, x),
+        Region::Flash => words::lay_by_and(lent.flash, at, bytes),
+        Region::Sram => words::lay(lent.sram, at, bytes),
+        Region::Usd => words::lay(lent.usd, at, bytes),
     }
 }
 
@@ -45,13 +45,12 @@ fn erase_sector(flash: &mut [u8], sector: Sector)
     words::fill(flash, sector.start(), Board::SECTOR_BYTES, ERASED);
 }
 
-// Erases the x sectors whose two-byte numbers are staged.
-fn erase_sectors(flash: &mut [u8], staged: &[u8], x: usize)
-    requires { (length flash.old ≡ (extent_of Flash).bytes) × (x ≤ sectors.count) × (numbers_bytes x ≤ length staged.now)
-        × T (all is_sector (first_numbered x staged.now)) }
-    ensures { flash.new ≡ erased flash.old (first_numbered x staged.now) }
+// Erases the sectors of two-byte numbers.
+fn erase_sectors(flash: &mut [u8], numbers: &[u8])
+    requires { (length flash.old ≡ (extent_of Flash).bytes) × (length numbers.now % selector_bytes ≡ 0)
+        × T (all is_sector (numbered numbers.now)) }
+    ensures { flash.new ≡ erased flash.old (numbered numbers.now) }
 {
-    let numbers = &staged[..Sector::NUMBER_BYTES * x];
     for number in numbers.chunks_exact(Sector::NUMBER_BYTES) {
         erase_sector(flash, Sector::numbered(number, 0));
     }
@@ -83,13 +82,13 @@ fn protect_also(usd: &mut [u8], sector: Sector)
     usd[byte] = usd[byte] & !(1u8 << bit);
 }
 
-// Makes the x sectors whose indexes are staged the only protected ones.
-fn protect_only(usd: &mut [u8], staged: &[u8], x: usize)
-    requires { (length usd.old ≡ (extent_of Usd).bytes) × (x ≤ length staged.now) × T (all is_sector (first_indexed x staged.now)) }
-    ensures { usd.new ≡ only_protected usd.old (first_indexed x staged.now) }
+// Makes the sectors of some indexes the only protected ones.
+fn protect_only(usd: &mut [u8], indexes: &[u8])
+    requires { (length usd.old ≡ (extent_of Usd).bytes) × T (all is_sector (indexed indexes.now)) }
+    ensures { usd.new ≡ only_protected usd.old (indexed indexes.now) }
 {
     release(usd);
-    for index in &staged[..x] {
+    for index in indexes {
         protect_also(usd, Sector(*index as u16));
     }
 }
@@ -125,10 +124,12 @@ pub fn carry_out(change: Change, staged: &[u8; STAGED], lent: &mut Lent<'_>)
 {
     match change {
         Change::Nothing => {}
-        Change::Write(region, at, x) => write(lent, region, at, staged, x),
+        Change::Write(region, at, x) => write(lent, region, at, &staged[..x]),
         Change::EraseAll => fill_all(lent.flash, ERASED),
-        Change::EraseSectors(x) => erase_sectors(lent.flash, staged, x),
-        Change::ProtectOnly(x) => protect_only(lent.usd, staged, x),
+        Change::EraseSectors(x) => {
+            erase_sectors(lent.flash, &staged[..Sector::NUMBER_BYTES * x])
+        }
+        Change::ProtectOnly(x) => protect_only(lent.usd, &staged[..x]),
         Change::Release => release(lent.usd),
         Change::Lock => lock(lent.usd),
         Change::Unlock => unlock(lent),

@@ -23,6 +23,7 @@ fn bytes_at<const N: usize>(memory: &[u8], at: usize) -> [u8; N]
 }
 
 // The short number that stands at a place.
+// Kept: two pairs, since one over both types would need a trait with laws for u32 and usize, to save a line of each.
 pub fn short_at(memory: &[u8], at: usize) -> u32
     requires { at + short_bytes ≤ length memory.now }
     ensures { result ≡ number (part at short_bytes memory.now) }

@@ -1,12 +1,15 @@
 -- What is known of a line that is not bad.
-use mathlib.Core.Path.{◌≡◌, refl, sym, ap, subst}
+use mathlib.Core.Path.{◌≡◌, refl, sym, ap, subst, ◌∙◌}
 use mathlib.Core.Bool.{Bool, true, false, ◌&&◌}
-use mathlib.Core.List.{List, [], ◌∷◌}
-use Prim.Native.Nat.{ℕ, ◌+◌, ◌*◌, ◌-◌, ◌≤◌, ◌<◌}
+use mathlib.Core.List.{List, [], ◌∷◌, ◌++◌}
+use Prim.Native.Nat.{ℕ, zero, suc, ◌+◌, ◌*◌, ◌-◌, ◌^◌, ◌≤◌, ◌<◌}
+use native.Mathlib.Numerals.{add-one}
 use native.Mathlib.Omega.{arith}
 use lib.Dec.{T, eqb, leb→le, eqb→eq}
-use lib.ListN.{length, get_or, drop}
-use lib.Seq.{drop-drop}
+use lib.ListN.{length, get_or, take, drop, length-drop}
+use lib.Seq.{drop-drop, take-suc, get_or-drop}
+use Rattle.std.proofs.Common.{mul_assoc, length-append}
+use Rattle.words.specs.Bytes.{number}
 use borrow.Author.Tests.{ne_eqb}
 use Rattle.std.specs.Prelude.{if◌then◌else◌, Option, Some, None, option_map}
 use Rattle.words.specs.Lists.{part}
@@ -59,29 +62,30 @@ unfolding is_good
 good_short l h =
     rw (ne_eqb (length l) (4 + 2 * count_in l) (λ e. omega arith), and_false (eqb (get_or l 0 0) letter_s && are_pairs (drop 2 l))) refl
 
--- a width that is neither two nor three
-pub is_four : (w : ℕ) → 2 ≤ w → w ≤ 4 → (w ≡ 2 → ⊥) → (w ≡ 3 → ⊥) → w ≡ 4
-is_four w h k n m = omega arith
+-- a byte behind others adds itself to 256 times their number
+number_snoc : (l : List ℕ) (b : ℕ) → number (l ++ (b ∷ [])) ≡ number l * 256 + b
+number_snoc [] b = omega arith
+number_snoc (x ∷ l) b =
+    let e : length (l ++ (b ∷ [])) ≡ suc (length l) = length-append l (b ∷ []) ∙ omega arith in
+    let p : x * (256 ^ length l * 256) ≡ x * 256 ^ length l * 256 = sym (mul_assoc x (256 ^ length l) 256) in
+    let q : 256 ^ suc (length l) ≡ 256 ^ length l * 256 = omega arith in
+    rw (e, q, number_snoc l b) (omega (arith, p))
 
--- the bytes of an address
-pub part_two : (l : List ℕ) → 3 ≤ length l → part 1 2 l ≡ get_or l 1 0 ∷ get_or l 2 0 ∷ []
-part_two [] h = absurd (omega arith)
-part_two (a ∷ []) h = absurd (omega arith)
-part_two (a ∷ b ∷ []) h = absurd (omega arith)
-part_two (a ∷ b ∷ c ∷ l) h = refl
+-- the address bytes one by one: the next one, and how large the number is so far
+pub address_more : (l : List ℕ) (i : ℕ) → 1 + i < length l → number (part 1 (i + 1) l) ≡ number (part 1 i l) * 256 + get_or l (1 + i) 0
+address_more l i h =
+    let d = length-drop 1 l in
+    rw (add-one i, take-suc (drop 1 l) i 0 (omega arith)) (number_snoc (take i (drop 1 l)) (get_or (drop 1 l) i 0) ∙ rw (get_or-drop 1 l i 0) refl)
 
-pub part_three : (l : List ℕ) → 4 ≤ length l → part 1 3 l ≡ get_or l 1 0 ∷ get_or l 2 0 ∷ get_or l 3 0 ∷ []
-part_three [] h = absurd (omega arith)
-part_three (a ∷ l) h = by_rest l (omega arith)
-  where
-    by_rest : (l : List ℕ) → 3 ≤ length l → part 0 3 l ≡ get_or l 0 0 ∷ get_or l 1 0 ∷ get_or l 2 0 ∷ []
-    by_rest [] h = absurd (omega arith)
-    by_rest (b ∷ l) h = ap (λ (m : List ℕ). b ∷ m) (part_two (b ∷ l) h)
+pub still_small : (v i : ℕ) → i ≤ 3 → v < 256 ^ i → v < 16777216
+still_small v zero h k = omega arith
+still_small v (suc zero) h k = omega arith
+still_small v (suc (suc zero)) h k = omega arith
+still_small v (suc (suc (suc zero))) h k = k
+still_small v (suc (suc (suc (suc i)))) h k = absurd (omega arith)
 
-pub part_four : (l : List ℕ) → 5 ≤ length l → part 1 4 l ≡ get_or l 1 0 ∷ get_or l 2 0 ∷ get_or l 3 0 ∷ get_or l 4 0 ∷ []
-part_four [] h = absurd (omega arith)
-part_four (a ∷ []) h = absurd (omega arith)
-part_four (a ∷ b ∷ l) h = ap (λ (m : List ℕ). b ∷ m) (part_three (b ∷ l) (omega arith))
+pub larger : (v b i : ℕ) → v < 256 ^ i → b < 256 → v * 256 + b < 256 ^ (i + 1)
+larger v b i h k = rw (add-one i) (omega arith)
 
 -- a line's data are pairs
 pub data_pairs : (l : List ℕ) → T (are_pairs (data_part l))

@@ -70,16 +70,11 @@ fn address(rest: &[u8], wide: usize) -> u32
     requires { T (are_pairs rest.now) × (2 ≤ wide) × (wide ≤ 4) × (2 * wide + 2 ≤ length rest.now) }
     ensures { result ≡ number (part 1 wide (bytes_in rest.now)) }
 {
-    let a = digits::byte_at(rest, 1);
-    let b = digits::byte_at(rest, 2);
-    if wide == 2 {
-        return words::number4(0, 0, a, b);
+    let mut number: u32 = 0;
+    for i in 0..wide {
+        number = number * 256 + u32::from(digits::byte_at(rest, 1 + i));
     }
-    let c = digits::byte_at(rest, 3);
-    if wide == 3 {
-        return words::number4(0, a, b, c);
-    }
-    words::number4(a, b, c, digits::byte_at(rest, 4))
+    number
 }
 
 // Whether the checksum is right.

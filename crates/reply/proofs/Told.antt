@@ -1,10 +1,8 @@
 -- What a carrier tells of its commands, byte by byte, and that a fixed reply is said.
-use mathlib.Core.Path.{◌≡◌, refl, sym, ap, ◌∙◌, subst}
+use mathlib.Core.Path.{◌≡◌, refl, ap, ◌∙◌}
 use mathlib.Core.List.{List, [], ◌∷◌, ◌++◌}
 use Prim.Native.Nat.{ℕ, ◌≤◌}
-use native.Mathlib.Omega.{arith}
-use lib.ListN.{length, take}
-use lib.Seq.{length-take-le}
+use lib.ListN.{length}
 use Rattle.words.specs.Lists.{join, singly}
 use Rattle.words.specs.Over.{put}
 use Rattle.words.proofs.Over.{put_front}
@@ -19,10 +17,10 @@ commands_joined list = ap (λ (r : List ℕ). ack_byte ∷ r) (joined list)
     joined [] = refl
     joined (b ∷ l) = ap (λ (r : List ℕ). b ∷ r) (joined l)
 
--- the first bytes of an array, laid over the front of a buffer
-pub fixed_said : (bytes reply before after : List ℕ) (n : ℕ) → n ≤ length bytes → n ≤ length before → take n bytes ≡ reply
-    → after ≡ put before 0 (take n bytes) → Said reply n before after
-fixed_said bytes reply before after n h k e p =
-    let l : length (take n bytes) ≡ n = length-take-le n bytes h in
-    subst (λ (r : List ℕ). Said r n before after) e
-    (record { count = sym l; buffer = p ∙ put_front before (take n bytes) (omega arith) })
+-- bytes that were copied to the front of a buffer are said
+pub fixed_said : (bytes before after : List ℕ) → length bytes ≤ length before → after ≡ put before 0 bytes
+    → Said bytes (length bytes) before after
+fixed_said bytes before after h p = record {
+  count = refl;
+  buffer = p ∙ put_front before bytes h;
+}

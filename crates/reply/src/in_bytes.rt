@@ -4,10 +4,9 @@ ghost use Rattle.words.specs.Lists.{join};
 ghost use Rattle.memories.specs.Lent.{holds};
 ghost use Rattle.memories.specs.Memories.{proper};
 ghost use Rattle.command.specs.Says.{says, sayable, Said};
-ghost use Rattle.reply.specs.Fixed.{Holds, Lists};
 ghost use Rattle.uart.specs.Conversation.{uart_room, command_bytes};
 
-use crate::{ACK, Fixed};
+use crate::ACK;
 use command::Reply;
 use memories::Lent;
 
@@ -17,20 +16,11 @@ const LISTED: usize = crate::LONGEST - 1;
 // n, which counts version and commands.
 const N: u8 = 0x0E;
 
-// What 0x00 tells, between two ACKs.
-fn commands() -> Fixed
-    ensures { Holds result × Lists result command_bytes }
-{
-    Fixed {
-        bytes: crate::listing(N, ACK, 0),
-        count: LISTED,
-    }
-}
-
 // Writes a reply that can be given, and tells its length.
 pub fn say(reply: Reply, lent: &Lent<'_>, buffer: &mut [u8]) -> usize
     requires { T (proper (holds lent.now)) × T (sayable reply) × (uart_room ≤ length buffer.old) }
     ensures { Said (join (says command_bytes reply (holds lent.now))) result buffer.old buffer.new }
 {
-    crate::say(commands(), reply, lent, buffer)
+    let commands = crate::listing(N, ACK, 0);
+    crate::say(&commands[..LISTED], reply, lent, buffer)
 }

@@ -3,12 +3,12 @@ ghost use Rattle.std.specs.Prelude.{◌≡◌, ◌≤◌, ◌<◌, T, length};
 ghost use Rattle.memories.specs.Lent.{holds};
 ghost use Rattle.memories.specs.Memories.{proper};
 ghost use Rattle.command.specs.Says.{says, sayable, Said};
-ghost use Rattle.reply.specs.Fixed.{Holds, Lists};
 ghost use Rattle.frames.specs.Frames.{classic, framed, first_alone};
 ghost use Rattle.can.specs.Conversation.{can_room, command_bytes};
+ghost use Rattle.reply.specs.Fixed.{Lists};
 ghost use Rattle.reply.specs.Pieces.{piece_of};
 
-use crate::{ACK, Fixed};
+use crate::{ACK, LONGEST};
 use command::{Reply, code};
 use frames::{BYTES, CLASSIC, put};
 use memories::Lent;
@@ -17,13 +17,10 @@ use memories::Lent;
 const N_LESS_ONE: u8 = 0x0E;
 
 // What 0x00 tells, between two ACKs.
-fn commands() -> Fixed
-    ensures { Holds result × Lists result command_bytes }
+fn commands() -> [u8; LONGEST]
+    ensures { Lists result command_bytes }
 {
-    Fixed {
-        bytes: crate::listing(N_LESS_ONE, code::SPEED, ACK),
-        count: crate::LONGEST,
-    }
+    crate::listing(N_LESS_ONE, code::SPEED, ACK)
 }
 
 // How many bytes of a reply go into one frame.
@@ -55,6 +52,7 @@ pub fn say(reply: Reply, id: u16, lent: &Lent<'_>, buffer: &mut [u8]) -> usize
     ensures { Said (framed classic id (says command_bytes reply (holds lent.now))) result buffer.old buffer.new }
 {
     let mut bytes = [0u8; uart::ROOM];
-    let n = crate::say(commands(), reply, lent, &mut bytes);
+    let listed = commands();
+    let n = crate::say(&listed, reply, lent, &mut bytes);
     put_reply(id, &bytes[..n], piece_of(reply), buffer)
 }

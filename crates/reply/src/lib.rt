@@ -4,7 +4,7 @@
 pub mod in_bytes;
 pub mod in_frames;
 
-ghost use Rattle.std.specs.Prelude.{◌≡◌, List, ◌∷◌, ℕ, ◌+◌, ◌≤◌, T, length, take};
+ghost use Rattle.std.specs.Prelude.{◌≡◌, List, ◌∷◌, ℕ, ◌+◌, ◌≤◌, T, length};
 ghost use Rattle.words.specs.Bytes.{four_bytes};
 ghost use Rattle.words.specs.Lists.{join, part};
 ghost use Rattle.words.specs.Over.{put};
@@ -14,18 +14,11 @@ ghost use Rattle.word_crc.specs.Words.{word_crc};
 ghost use Rattle.memories.specs.Lent.{holds};
 ghost use Rattle.memories.specs.Memories.{proper, bytes_of};
 ghost use Rattle.command.specs.Says.{reply_room, ack_byte, tells, says, sayable, fixed, Said};
-ghost use Rattle.reply.specs.Fixed.{fixed_room, listing, Holds, Lists};
+ghost use Rattle.reply.specs.Fixed.{fixed_room, listing, Lists};
 
 use board::{Board, Region};
 use command::{FixedReply, Reply, code};
 use memories::Lent;
-
-// A fixed reply: bytes, of which the first few are the reply, and how many these are.
-#[derive(Clone, Copy)]
-pub struct Fixed {
-    pub bytes: [u8; LONGEST],
-    pub count: usize,
-}
 
 // ACK and NACK.
 pub const ACK: u8 = 0x79;
@@ -35,43 +28,20 @@ pub const NACK: u8 = 0x1F;
 // The byte before the product ID.
 const DEVICE_TOLD: u8 = 0x04;
 
-// The bytes of the replies to 0x01, to 0x02 and of a checksum.
-const VERSION_LENGTH: usize = 5;
-
-const DEVICE_LENGTH: usize = 8;
-
-const SUM_LENGTH: usize = 1 + numbers::SHORT;
-
 // The bytes of the longest fixed reply, that to 0x00 on CAN.
 pub const LONGEST: usize = 18;
 
-// ACK and NACK.
-const ACK_NACK: [u8; LONGEST] = [ACK, NACK, 0, 0, 0, 0, 0, 0, 0, 0, 0, 0, 0, 0, 0, 0, 0, 0];
-
 // What 0x01 tells, between two ACKs.
-const VERSION: [u8; LONGEST] = [
+const VERSION: &[u8] = &[
     ACK,
     Board::VERSION,
     Board::BID_FIRST,
     Board::BID_SECOND,
     ACK,
-    0,
-    0,
-    0,
-    0,
-    0,
-    0,
-    0,
-    0,
-    0,
-    0,
-    0,
-    0,
-    0,
 ];
 
 // What 0x02 tells, between two ACKs.
-const DEVICE: [u8; LONGEST] = [
+const DEVICE: &[u8] = &[
     ACK,
     DEVICE_TOLD,
     (Board::PRODUCT / 256 % 256) as u8,
@@ -80,16 +50,6 @@ const DEVICE: [u8; LONGEST] = [
     (Board::PRODUCT / 65536 % 256) as u8,
     Board::PROJECT,
     ACK,
-    0,
-    0,
-    0,
-    0,
-    0,
-    0,
-    0,
-    0,
-    0,
-    0,
 ];
 
 // The bytes of an answer to 0x00, with a count and two bytes behind the commands that both carriers have.
@@ -118,14 +78,14 @@ pub fn listing(count: u8, first: u8, second: u8) -> [u8; LONGEST]
     ]
 }
 
-// Writes ACK and x bytes of a memory.
-fn say_bytes(memory: &[u8], at: usize, x: usize, buffer: &mut [u8]) -> usize
-    requires { (x ≤ largest_count) × (at + x ≤ length memory.now) × (reply_room ≤ length buffer.old) }
-    ensures { (result ≡ x + 1) × (buffer.new ≡ put buffer.old 0 (ack_byte ∷ part at x memory.now)) }
+// Writes ACK and bytes.
+fn say_bytes(bytes: &[u8], buffer: &mut [u8]) -> usize
+    requires { (length bytes.now ≤ largest_count) × (reply_room ≤ length buffer.old) }
+    ensures { (result ≡ length bytes.now + 1) × (buffer.new ≡ put buffer.old 0 (ack_byte ∷ bytes.now)) }
 {
     buffer[0] = ACK;
-    words::copy(buffer, 1, memory, at, x);
-    x + 1
+    words::lay(buffer, 1, bytes);
+    bytes.len() + 1
 }
 
 // Writes ACK and the four bytes of a checksum, high first.
@@ -133,9 +93,7 @@ fn say_crc(value: u32, buffer: &mut [u8]) -> usize
     requires { reply_room ≤ length buffer.old }
     ensures { (result ≡ length (ack_byte ∷ four_bytes value)) × (buffer.new ≡ put buffer.old 0 (ack_byte ∷ four_bytes value)) }
 {
-    buffer[0] = ACK;
-    numbers::put_short(buffer, 1, value);
-    SUM_LENGTH
+    say_bytes(&value.to_be_bytes(), buffer)
 }
 
 // Writes x bytes of a region behind ACK.
@@ -144,75 +102,54 @@ fn say_data(region: Region, at: usize, x: usize, lent: &Lent<'_>, buffer: &mut [
         × (reply_room ≤ length buffer.old) }
     ensures { (result ≡ x + 1) × (buffer.new ≡ put buffer.old 0 (ack_byte ∷ part at x (bytes_of region (holds lent.now)))) }
 {
-    match region {
-        Region::Flash => say_bytes(lent.flash, at, x, buffer),
-        Region::Sram => say_bytes(lent.sram, at, x, buffer),
-        Region::Usd => say_bytes(lent.usd, at, x, buffer),
-    }
+    let memory: &[u8] = match region {
+        Region::Flash => lent.flash,
+        Region::Sram => lent.sram,
+        Region::Usd => lent.usd,
+    };
+    say_bytes(&memory[at..at + x], buffer)
 }
 
 // The bytes of what is told whatever the memories hold, given what the carrier tells of its commands.
-fn fixed_bytes(commands: Fixed, told: FixedReply) -> Fixed
-    requires { Holds commands }
-    ensures { Holds result × ((list : List ℕ) → Lists commands list → take result.count result.bytes ≡ join (tells list told)) }
+fn fixed_bytes(commands: &[u8], told: FixedReply) -> &[u8]
+    requires { length commands.now ≤ fixed_room }
+    ensures few { length result.now ≤ fixed_room }
+    ensures told { (list : List ℕ) → Lists commands.now list → result.now ≡ join (tells list told) }
 {
     match told {
-        FixedReply::Silence => Fixed {
-            bytes: [0; LONGEST],
-            count: 0,
-        },
-        FixedReply::Ack => Fixed {
-            bytes: [ACK; LONGEST],
-            count: 1,
-        },
-        FixedReply::AckAck => Fixed {
-            bytes: [ACK; LONGEST],
-            count: 2,
-        },
-        FixedReply::Nack(_) => Fixed {
-            bytes: [NACK; LONGEST],
-            count: 1,
-        },
-        FixedReply::AckNack(_) => Fixed {
-            bytes: ACK_NACK,
-            count: 2,
-        },
+        FixedReply::Silence => &[],
+        FixedReply::Ack => &[ACK],
+        FixedReply::AckAck => &[ACK, ACK],
+        FixedReply::Nack(_) => &[NACK],
+        FixedReply::AckNack(_) => &[ACK, NACK],
         FixedReply::Commands => commands,
-        FixedReply::Version => Fixed {
-            bytes: VERSION,
-            count: VERSION_LENGTH,
-        },
-        FixedReply::DeviceId => Fixed {
-            bytes: DEVICE,
-            count: DEVICE_LENGTH,
-        },
+        FixedReply::Version => VERSION,
+        FixedReply::DeviceId => DEVICE,
     }
 }
 
-// Writes the checksum of n bytes of flash behind ACK.
-fn say_sum(flash: &[u8], at: usize, n: usize, buffer: &mut [u8]) -> usize
-    requires { (at + n ≤ length flash.now) × (reply_room ≤ length buffer.old) }
-    ensures { (result ≡ length (ack_byte ∷ four_bytes (word_crc (part at n flash.now))))
-        × (buffer.new ≡ put buffer.old 0 (ack_byte ∷ four_bytes (word_crc (part at n flash.now)))) }
+// Writes the checksum of bytes behind ACK.
+fn say_sum(bytes: &[u8], buffer: &mut [u8]) -> usize
+    requires { reply_room ≤ length buffer.old }
+    ensures { (result ≡ length (ack_byte ∷ four_bytes (word_crc bytes.now)))
+        × (buffer.new ≡ put buffer.old 0 (ack_byte ∷ four_bytes (word_crc bytes.now))) }
 {
-    let end = at + n;
-    say_crc(word_crc::crc(&flash[at..end]), buffer)
+    say_crc(word_crc::crc(bytes), buffer)
 }
 
 // Writes the bytes of a reply that can be given, message behind message, and tells how many; what a carrier tells of its commands is given.
-pub fn say(commands: Fixed, reply: Reply, lent: &Lent<'_>, buffer: &mut [u8]) -> usize
-    requires { Holds commands × T (proper (holds lent.now)) × T (sayable reply) × (reply_room ≤ length buffer.old) }
-    ensures { ((list : List ℕ) → Lists commands list → Said (join (says list reply (holds lent.now))) result buffer.old buffer.new)
+pub fn say(commands: &[u8], reply: Reply, lent: &Lent<'_>, buffer: &mut [u8]) -> usize
+    requires { (length commands.now ≤ fixed_room) × T (proper (holds lent.now)) × T (sayable reply) × (reply_room ≤ length buffer.old) }
+    ensures { ((list : List ℕ) → Lists commands.now list → Said (join (says list reply (holds lent.now))) result buffer.old buffer.new)
         × (result ≤ reply_room) × (T (fixed reply) → result ≤ fixed_room) }
 {
     match reply {
         Reply::Data(region, at, x) => say_data(region, at, x, lent, buffer),
-        Reply::Crc(at, n) => say_sum(lent.flash, at, n, buffer),
+        Reply::Crc(at, n) => say_sum(&lent.flash[at..at + n], buffer),
         Reply::Fixed(told) => {
-            let fixed = fixed_bytes(commands, told);
-            let bytes = fixed.bytes;
-            words::copy(buffer, 0, &bytes, 0, fixed.count);
-            fixed.count
+            let bytes = fixed_bytes(commands, told);
+            words::lay(buffer, 0, bytes);
+            bytes.len()
         }
     }
 }

@@ -1,5 +1,5 @@
 -- What each rule tests, beside the reason that it has: document 02, Wish 2. Which of several is given, the order of the reasons says.
-use Rattle.std.specs.Prelude.{ℕ, Bool, true, false, not, ◌&&◌, ◌||◌, List, [], ◌∷◌, eqb, leb, Option, Some, None, is_none}
+use Rattle.std.specs.Prelude.{ℕ, Bool, false, not, ◌&&◌, ◌||◌, List, [], ◌∷◌, eqb, leb, Option, Some, None, is_none}
 use Rattle.words.specs.Lists.{any, all}
 use Rattle.board.specs.Board.{sectors, usd}
 use Rattle.board.specs.Quantities.{count_of, less_one, bytes_in, is_sector, every_sector}

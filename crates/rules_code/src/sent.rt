@@ -19,7 +19,7 @@ pub fn address_in(bytes: &[u8]) -> Address
 pub fn count_of(byte: u8) -> usize
     ensures { (result ≡ count_of (less_one byte)) × (result ≤ largest_count) }
 {
-    LessOne(byte as u16).count()
+    LessOne(u16::from(byte)).count()
 }
 
 // The count that two bytes send as one less, high byte first.

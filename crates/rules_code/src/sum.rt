@@ -12,10 +12,12 @@ fn sum_at(place: Option<Place>, n: usize) -> Decision
     ensures { result ≡ sum_at place n }
 {
     match place {
-        Some(Place {
-            region: Region::Flash,
-            at,
-        }) => command::show(Reply::Crc(at, n), Next::GoIdle),
+        Some(
+            Place {
+                region: Region::Flash,
+                at,
+            },
+        ) => command::show(Reply::Crc(at, n), Next::GoIdle),
         _ => command::nack(Why::BadRange),
     }
 }

@@ -4,7 +4,7 @@ use mathlib.Core.Bool.{Bool}
 use mathlib.Core.List.{List, [], ◌∷◌, ◌++◌}
 use Prim.Native.Nat.{ℕ}
 use native.Mathlib.Omega.{arith}
-use lib.ListN.{length, take, set}
+use lib.ListN.{length, set}
 use lib.Seq.{take_all}
 use borrow.Author.Tests.{eq-eqb}
 use Rattle.std.specs.Prelude.{if◌then◌else◌}
@@ -17,11 +17,11 @@ use Rattle.session_bytes.specs.Sessions.{session_length, session_bytes, held_in,
 
 -- the stores of a session's parts, one behind the other, make its bytes
 pub all_stored : (l : List ℕ) (s : Session) → length l ≡ session_length → length s.staged ≡ 257
-    → put (set (put (put (put (set (set l 0 s.carrier) 1 s.step) 2 (eight_bytes s.taken)) 10 (eight_bytes s.expected)) 18 (four_bytes s.address)) 22 s.speed) 23 (take 257 s.staged)
+    → put (set (put (put (put (set (set l 0 s.carrier) 1 s.step) 2 (eight_bytes s.taken)) 10 (eight_bytes s.expected)) 18 (four_bytes s.address)) 22 s.speed) 23 s.staged
     ≡ session_bytes s
 unfolding session_bytes
 all_stored l s h k =
-    rw (take_all 257 s.staged (omega arith), ← put_one l 0 s.carrier, ← put_one (put l 0 (s.carrier ∷ [])) 1 s.step, put_then l 0 1 (s.carrier ∷ []) (s.step ∷ []) refl)
+    rw (← put_one l 0 s.carrier, ← put_one (put l 0 (s.carrier ∷ [])) 1 s.step, put_then l 0 1 (s.carrier ∷ []) (s.step ∷ []) refl)
     (rw (put_then l 0 2 (s.carrier ∷ s.step ∷ []) (eight_bytes s.taken) refl)
     (rw (put_then l 0 10 (s.carrier ∷ s.step ∷ eight_bytes s.taken) (eight_bytes s.expected) refl)
     (rw (put_then l 0 18 ((s.carrier ∷ s.step ∷ []) ++ eight_bytes s.taken ++ eight_bytes s.expected) (four_bytes s.address) refl)

@@ -4,8 +4,7 @@
 ghost use Rattle.std.specs.Prelude.{◌≡◌, length};
 ghost use Rattle.words.specs.Lists.{part};
 ghost use Rattle.memories.specs.Effects.{staged_bytes};
-ghost use Rattle.boot.specs.Causes.{cause_no};
-ghost use Rattle.boot.specs.declared.Cause.TheVariants.{Accepted};
+ghost use Rattle.boot.specs.Causes.{accepted, cause_no};
 ghost use Rattle.session_bytes.specs.Sessions.{session_length, staged_place, session_bytes, held_in, no_session, session_in};
 ghost use Rattle.session_bytes.specs.Promise.{HandsOn};
 
@@ -41,12 +40,13 @@ fn staged_in(lent: &[u8]) -> [u8; memories::STAGED]
     requires { length lent.now ≡ session_length }
     ensures { result ≡ part staged_place staged_bytes lent.now }
 {
-    let mut staged = [0u8; memories::STAGED];
-    words::copy(&mut staged, 0, lent, STAGED, memories::STAGED);
+    let mut staged = memories::none_staged();
+    staged.copy_from_slice(&lent[STAGED..LENGTH]);
     staged
 }
 
 // The session whose bytes these are.
+#[tactic(auto, unfolding(crate::specs::Sessions::held_in))]
 fn held_in(lent: &[u8]) -> Session
     requires { length lent.now ≡ session_length }
     ensures { result ≡ held_in lent.now }
@@ -72,6 +72,7 @@ fn no_session() -> Session
 }
 
 // The session that a slice holds.
+#[tactic(auto, unfolding(crate::specs::Sessions::session_in))]
 pub fn read(lent: &[u8]) -> Session
     ensures { result ≡ session_in lent.now }
 {
@@ -93,12 +94,12 @@ pub fn write(session: Session, lent: &mut [u8])
     numbers::put_long(lent, EXPECTED, session.expected);
     numbers::put_short(lent, ADDRESS, session.address);
     lent[SPEED] = session.speed;
-    words::copy(lent, STAGED, &session.staged, 0, memories::STAGED);
+    words::lay(lent, STAGED, &session.staged);
 }
 
 // Tells the number of a call, and hands its session on where it was accepted.
 pub fn hand_on(taken: Taken, session: &mut [u8]) -> u8
-    requires { taken.number ≡ cause_no Accepted → length session.old ≡ session_length }
+    requires { taken.number ≡ cause_no accepted → length session.old ≡ session_length }
     ensures { (result ≡ taken.number) × HandsOn taken session.old session.new }
 {
     let number = taken.number;

@@ -25,7 +25,7 @@ use Rattle.boot.specs.Causes.{accepts}
 use Rattle.boot.specs.Calls.{done, State, Input, carrier_of, brings, view_in, cause_for, decide, perform, refused, call, run}
 use Rattle.carriers.specs.declared.Carrier.{Carrier}
 use Rattle.carriers.specs.declared.Carrier.TheVariants.{None, Uart, Can, Running}
-use Rattle.boot.specs.declared.Cause.{Cause}
+use Rattle.boot.specs.Causes.{Judged}
 use Rattle.boot.specs.declared.Session.{Session}
 use Rattle.theorems.specs.Failures.{acks, acked, refuses, is_refused, in_erase, erase_pending, in_erase_list, to_erase, EraseAllOrNothing}
 use Rattle.command.proofs.Holds.{Holds}
@@ -84,7 +84,7 @@ in_erase_pending c g (Run a) s h = tt
 
 -- ---- one call, by whether it is accepted
 
-module _ (i : Input) (p : State) (c : Cause) (d : Decision) (f : Holds Honest d) where
+module _ (i : Input) (p : State) (c : Judged) (d : Decision) (f : Holds Honest d) where
   refused_leaves : (t : Bool) → T (not t || refuses (if t gives d else answer Silence Stay).reply)
       → (if t then perform i p d else refused c p).state.memories ≡ p.memories
   unfolding if◌gives◌else◌ perform

@@ -7,7 +7,7 @@ use native.Mathlib.Nat.{le_of_suc-le-suc, not-suc-le-zero}
 use native.Mathlib.Omega.{arith}
 use lib.Dec.{T, not_T, T_not, eqb, leb, ltb, eqb→eq, ltb→lt, nltb→le}
 use lib.ListN.{length, get_or}
-use Rattle.std.specs.Prelude.{if◌then◌else◌}
+use Rattle.std.specs.Prelude.{if◌then◌else◌, Ok, Err}
 use Rattle.words.specs.Lists.{count_from}
 use Rattle.words.proofs.Tests.{both_left, both_right, holds_true}
 use Rattle.board.specs.declared.View.{View}
@@ -33,7 +33,7 @@ use Rattle.boot.specs.Causes.{cause_of, accepts}
 use Rattle.boot.specs.Calls.{State, Input, Power, Byte, Framed, cause_for, decide}
 use Rattle.carriers.specs.declared.Carrier.{Carrier}
 use Rattle.carriers.specs.declared.Carrier.TheVariants.{None, Uart, Can}
-use Rattle.boot.specs.declared.Cause.{Cause}
+use Rattle.boot.specs.Causes.{Judged}
 use Rattle.boot.specs.declared.Cause.TheVariants.{WrongMemory}
 use Rattle.boot.specs.declared.Session.{Session}
 use Rattle.boot.proofs.Causes.{accepted_clear}
@@ -164,7 +164,7 @@ is_call Power = false
 is_call (Byte room b) = true
 is_call (Framed room l) = true
 
-first_cause : (t : Bool) (c : Cause) → T (accepts (if not t then WrongMemory else c)) → T t
+first_cause : (t : Bool) (c : Judged) → T (accepts (if not t then Err WrongMemory else c)) → T t
 first_cause true c h = tt
 first_cause false c h = h
 

@@ -28,8 +28,8 @@ use Rattle.boot.specs.Session.{after, progress, gathered, falls_at, placed}
 use Rattle.boot.specs.Causes.{cause_no, cause_of, accepts}
 use Rattle.boot.specs.Calls.{done, State, powered, Input, Power, Byte, Framed, Outcome, carrier_of, brings, commands_of, view_in, cause_for, decide, sent}
 use Rattle.boot.specs.Calls.{perform, refused, call, run}
-use Rattle.boot.specs.declared.Cause.{Cause}
-use Rattle.boot.specs.declared.Cause.TheVariants.{Accepted}
+use Rattle.boot.specs.Causes.{Judged}
+use Rattle.boot.specs.Causes.{accepted}
 use Rattle.boot.specs.declared.Session.{Session}
 use Rattle.theorems.specs.Failures.{reads}
 use Rattle.theorems.specs.Secrecy.{unlocks, opens, shut, Call, input, inputs, lent, filled, left_by, leaves, leaves_of, sums, answered, veiled}
@@ -122,7 +122,7 @@ module _ (i : Input) (p q : State) (t : Twins p q) where
   decisions_alike = ap₂ (decide i) t.session (ap view_of t.usd)
 
 -- a call and what is seen of it, by whether it is accepted, its cause and its decision
-abbrev call_by : Input → State → Bool → Cause → Decision → Outcome
+abbrev call_by : Input → State → Bool → Judged → Decision → Outcome
 call_by i p t c d = if t then perform i p d else refused c p
 
 abbrev seen_by : Input → List ℕ → Outcome → Decision → Seen
@@ -138,7 +138,7 @@ seen_by i before o e = record {
 
 -- ---- one call
 
-module _ (i : Input) (c : Cause) (d : Decision) (f : Discreet (carrier_of i) d) where
+module _ (i : Input) (c : Judged) (d : Decision) (f : Discreet (carrier_of i) d) where
   -- the memories stay, unless it opens
   keeps : (p : State) (t : Bool) → T (not (unlocks (done_by t d).change)) → (call_by i p t c d).state.memories ≡ p.memories
   unfolding perform if◌gives◌else◌
@@ -206,7 +206,7 @@ module _ (i : Input) (c : Cause) (d : Decision) (f : Discreet (carrier_of i) d) 
     opens_alike : (t : Bool) → T (unlocks (done_by t d).change) → call_by i p t c d ≡ call_by i q t c d
     unfolding perform if◌gives◌else◌
     opens_alike true o = λ j. record {
-      cause = Accepted;
+      cause = accepted;
       reply = (ap (λ (s : Session). sent i s (says (commands_of i) d.reply p.memories)) w.session
           ∙ ap (sent i q.session) (says_alike (commands_of i) d.reply (f.fixed o) p.memories q.memories)) j;
       reason = reason_of d.reply;
@@ -241,11 +241,11 @@ module _ (i : Input) (p q : State) (w : Twins p q) where
   second_call : call i q ≡ call_by i q (accepts (cause_for i p)) (cause_for i p) (decide i p.session (view_in p))
   unfolding call
   second_call =
-      ap₂ (λ (c : Cause) (e : Decision). call_by i q (accepts c) c e) (sym (causes_alike i p q w)) (sym (decisions_alike i p q w))
+      ap₂ (λ (c : Judged) (e : Decision). call_by i q (accepts c) c e) (sym (causes_alike i p q w)) (sym (decisions_alike i p q w))
 
   second_done : done i q ≡ done i p
   unfolding done
-  second_done = ap₂ (λ (c : Cause) (e : Decision). done_by (accepts c) e) (sym (causes_alike i p q w)) (sym (decisions_alike i p q w))
+  second_done = ap₂ (λ (c : Judged) (e : Decision). done_by (accepts c) e) (sym (causes_alike i p q w)) (sym (decisions_alike i p q w))
 
   -- the first board does not read
   pub quiet_done : T (not (reads (done i p).reply))

@@ -7,7 +7,7 @@ use Prim.Native.Nat.{ℕ}
 use native.Mathlib.Omega.{arith}
 use lib.Dec.{T, T_not, eqb, eqb→eq}
 use lib.ListN.{take, drop}
-use Rattle.std.specs.Prelude.{if◌then◌else◌, Some}
+use Rattle.std.specs.Prelude.{if◌then◌else◌, Some, Ok, Err}
 use Rattle.words.proofs.Tests.{both_left, both_right, holds_true}
 use Rattle.board.specs.declared.Address.{Address}
 use Rattle.board.specs.declared.View.{View}
@@ -35,8 +35,8 @@ use Rattle.carriers.specs.declared.Carrier.TheVariants.{Uart, Can}
 use Rattle.boot.specs.Session.{on, sound, progress}
 use Rattle.boot.specs.Causes.{cause_no, accepts}
 use Rattle.boot.specs.Calls.{State, Input, Power, Byte, Framed, commands_of, view_in, cause_for, decide, sent, perform, refused, call, done}
-use Rattle.boot.specs.declared.Cause.{Cause}
-use Rattle.boot.specs.declared.Cause.TheVariants.{Accepted, WrongMemory, ShortReply, BadFrame, UnsoundSession, BoardRunning}
+use Rattle.boot.specs.Causes.{Judged}
+use Rattle.boot.specs.declared.Cause.TheVariants.{WrongMemory, ShortReply, BadFrame, UnsoundSession, BoardRunning}
 use Rattle.boot.specs.declared.Session.{Session}
 use Rattle.command.proofs.First.{is_some}
 use Rattle.command.proofs.Holds.{Holds, either, split}
@@ -54,14 +54,14 @@ pub number_accepts : (i : Input) (p : State) → eqb (cause_no (call i p).cause)
 unfolding call perform
 number_accepts i p = by_cause (cause_for i p)
   where
-    by_cause : (c : Cause)
+    by_cause : (c : Judged)
         → eqb (cause_no (if accepts c then perform i p (decide i p.session (view_in p)) else refused c p).cause) 0 ≡ accepts c
-    by_cause Accepted = refl
-    by_cause WrongMemory = refl
-    by_cause ShortReply = refl
-    by_cause BadFrame = refl
-    by_cause UnsoundSession = refl
-    by_cause BoardRunning = refl
+    by_cause (Ok u) = refl
+    by_cause (Err WrongMemory) = refl
+    by_cause (Err ShortReply) = refl
+    by_cause (Err BadFrame) = refl
+    by_cause (Err UnsoundSession) = refl
+    by_cause (Err BoardRunning) = refl
 
 -- a refused call replies nothing, an accepted one what it decided
 pub replied : (i : Input) (p : State) → (call i p).reply ≡ sent_with p.memories i p

@@ -18,7 +18,7 @@ fn addressed(bytes: &[u8], decision: Decision) -> Decision
     ensures { result ≡
         (if checks (take address_bytes bytes.now) (get_or bytes.now address_bytes 0) gives decision else nack BadChecksum) }
 {
-    let right = bytes[sent::ADDRESS_BYTES] == words::xor_from(0, bytes, sent::ADDRESS_BYTES);
+    let right = bytes[sent::ADDRESS_BYTES] == words::xor(0, &bytes[..sent::ADDRESS_BYTES]);
     command::accept_if(right, decision, Why::BadChecksum)
 }
 

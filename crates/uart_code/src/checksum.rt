@@ -21,7 +21,7 @@ pub fn checks_counted(bytes: &[u8], x: usize) -> bool
     requires { (length bytes.now ≡ staged_bytes) × (1 ≤ x) × (x ≤ largest_count) }
     ensures { result ≡ checks_counted x bytes.now }
 {
-    bytes[x] == words::xor_from(LessOne::of(x).0 as u8, bytes, x)
+    bytes[x] == words::xor(LessOne::of(x).0 as u8, &bytes[..x])
 }
 
 // Whether the byte behind x two-byte numbers is the XOR of them and of the selector.
@@ -30,7 +30,7 @@ pub fn checks_numbered(bytes: &[u8], x: usize) -> bool
     ensures { result ≡ checks_numbered x bytes.now }
 {
     let end = Sector::NUMBER_BYTES * x;
-    bytes[end] == words::xor_from(LessOne::of(x).0 as u8, bytes, end)
+    bytes[end] == words::xor(LessOne::of(x).0 as u8, &bytes[..end])
 }
 
 // Whether a byte is the XOR of the two low bytes of a special selector.

@@ -12,11 +12,11 @@ ghost use Rattle.memories.specs.Effects.{staged_bytes};
 ghost use Rattle.command.specs.Decision.{if◌gives◌else◌, answer};
 ghost use Rattle.command.specs.declared.Next.TheVariants.{Gather};
 ghost use Rattle.command.specs.declared.FixedReply.TheVariants.{Silence};
-ghost use Rattle.uart.specs.Steps.{step_of, expects, complemented_byte, one_byte, expected_for, expected_for_numbers};
+ghost use Rattle.uart.specs.Steps.{expects, complemented_byte, one_byte, expected_for, expected_for_numbers};
 ghost use Rattle.uart.specs.Conversation.{awaits, selected, read_ends, selector_ends, protect_ends, crc_ends, complete};
 
 use board::{Address, Sector, View};
-use command::{Decision, FixedReply, Next, Why};
+use command::{Decision, FixedReply, Next, SoFar, Why};
 use memories::Change;
 use rules::Selector;
 use rules_code::sent;
@@ -52,7 +52,11 @@ fn selected(selector: Selector) -> Decision
         }
         Selector::Special(number) => command::answer(
             FixedReply::Silence,
-            Next::EnterAt(u8::from(Step::SpecialCheck), uart::ONE_BYTE, number as u32),
+            Next::EnterAt(
+                u8::from(Step::SpecialCheck),
+                uart::ONE_BYTE,
+                u32::from(number),
+            ),
         ),
         Selector::Impossible => command::nack(Why::BadRange),
     }
@@ -71,26 +75,26 @@ fn command_ends(view: View, bytes: &[u8]) -> Decision
 }
 
 // The end of a read's length and its complement.
-fn read_ends(address: u32, bytes: &[u8]) -> Decision
-    requires { length bytes.now ≡ staged_bytes }
-    ensures { result ≡ read_ends address bytes.now }
+fn read_ends(here: SoFar<'_>) -> Decision
+    requires { length here.staged.now ≡ staged_bytes }
+    ensures { result ≡ read_ends here.entry.address here.entry.staged.now }
 {
     command::accept_if(
-        checksum::complemented(bytes),
-        rules_code::read::read(Address(address), sent::count_of(bytes[0])),
+        checksum::complemented(here.staged),
+        rules_code::read::read(Address(here.address), sent::count_of(here.staged[0])),
         Why::BadChecksum,
     )
 }
 
 // The end of a write's data and their checksum.
-fn write_ends(view: View, expected: usize, address: u32, bytes: &[u8]) -> Decision
-    requires { (expected_for 1 ≤ expected) × (expected ≤ expected_for largest_count) × (length bytes.now ≡ staged_bytes) }
-    ensures { result ≡ complete Step.WriteData expected address bytes.now view }
+fn write_ends(here: SoFar<'_>, view: View) -> Decision
+    requires { (expected_for 1 ≤ here.expected) × (here.expected ≤ expected_for largest_count) × (length here.staged.now ≡ staged_bytes) }
+    ensures { result ≡ complete Step.WriteData here.entry.expected here.entry.address here.entry.staged.now view }
 {
-    let x = expected - 1;
+    let x = here.expected - 1;
     command::accept_if(
-        checksum::checks_counted(bytes, x),
-        rules_code::write::write(view, Address(address), x),
+        checksum::checks_counted(here.staged, x),
+        rules_code::write::write(view, Address(here.address), x),
         Why::BadChecksum,
     )
 }
@@ -104,14 +108,14 @@ fn selector_ends(bytes: &[u8]) -> Decision
 }
 
 // The end of a special erase.
-fn special_ends(view: View, address: u32, bytes: &[u8]) -> Decision
-    requires { length bytes.now ≡ staged_bytes }
-    ensures { result ≡ complete Step.SpecialCheck one_byte address bytes.now view }
+fn special_ends(here: SoFar<'_>, view: View) -> Decision
+    requires { length here.staged.now ≡ staged_bytes }
+    ensures { result ≡ complete Step.SpecialCheck one_byte here.entry.address here.entry.staged.now view }
 {
     command::accept_if(
-        checksum::special_checks(address, bytes[0]),
+        checksum::special_checks(here.address, here.staged[0]),
         command::judged(
-            list_rules_code::erase::erase_all_verdict(view, address),
+            list_rules_code::erase::erase_all_verdict(view, here.address),
             command::alter(FixedReply::Ack, Change::EraseAll, Next::GoIdle),
         ),
         Why::BadChecksum,
@@ -119,27 +123,28 @@ fn special_ends(view: View, address: u32, bytes: &[u8]) -> Decision
 }
 
 // The end of an erase's numbers and their checksum.
-fn erase_ends(view: View, expected: usize, bytes: &[u8]) -> Decision
-    requires { (expected_for_numbers 1 ≤ expected) × (expected ≤ expected_for_numbers sectors.count) × (length bytes.now ≡ staged_bytes) }
-    ensures { result ≡ complete Step.EraseList expected 0 bytes.now view }
+fn erase_ends(here: SoFar<'_>, view: View) -> Decision
+    requires { (expected_for_numbers 1 ≤ here.expected) × (here.expected ≤ expected_for_numbers sectors.count)
+        × (length here.staged.now ≡ staged_bytes) }
+    ensures { result ≡ complete Step.EraseList here.entry.expected here.entry.address here.entry.staged.now view }
 {
-    let x = (expected - 1) / Sector::NUMBER_BYTES;
+    let x = (here.expected - 1) / Sector::NUMBER_BYTES;
     command::accept_if(
-        checksum::checks_numbered(bytes, x),
-        list_rules_code::erase::erase(view, bytes, x),
+        checksum::checks_numbered(here.staged, x),
+        list_rules_code::erase::erase(view, here.staged, x),
         Why::BadChecksum,
     )
 }
 
 // The end of the indexes of 0x63 and their checksum.
-fn protect_ends(expected: usize, bytes: &[u8]) -> Decision
-    requires { (expected_for 1 ≤ expected) × (expected ≤ expected_for largest_count) × (length bytes.now ≡ staged_bytes) }
-    ensures { result ≡ protect_ends expected bytes.now }
+fn protect_ends(here: SoFar<'_>) -> Decision
+    requires { (expected_for 1 ≤ here.expected) × (here.expected ≤ expected_for largest_count) × (length here.staged.now ≡ staged_bytes) }
+    ensures { result ≡ protect_ends here.entry.expected here.entry.staged.now }
 {
-    let x = expected - 1;
+    let x = here.expected - 1;
     command::accept_if(
-        checksum::checks_counted(bytes, x),
-        list_rules_code::protect::protect(bytes, x),
+        checksum::checks_counted(here.staged, x),
+        list_rules_code::protect::protect(here.staged, x),
         Why::BadChecksum,
     )
 }
@@ -150,17 +155,18 @@ fn crc_ends(address: u32, bytes: &[u8]) -> Decision
     ensures { result ≡ crc_ends address bytes.now }
 {
     command::accept_if(
-        bytes[2] == words::xor_from(CRC_CHECK, bytes, 2),
+        bytes[2] == words::xor(CRC_CHECK, &bytes[..2]),
         rules_code::sum::sum(Address(address), sent::long_count(bytes[0], bytes[1])),
         Why::BadChecksum,
     )
 }
 
 // A step whose bytes are all there.
-fn complete(step: Step, expected: usize, address: u32, bytes: &[u8], view: View) -> Decision
-    requires { T (expects step expected) × (length bytes.now ≡ staged_bytes) }
-    ensures { result ≡ complete step expected address bytes.now view }
+fn complete(step: Step, here: SoFar<'_>, view: View) -> Decision
+    requires { T (expects step here.expected) × (length here.staged.now ≡ staged_bytes) }
+    ensures { result ≡ complete step here.entry.expected here.entry.address here.entry.staged.now view }
 {
+    let bytes = here.staged;
     match step {
         Step::Idle => command_ends(view, bytes),
         Step::ReadAddress => address::kept(
@@ -182,34 +188,28 @@ fn complete(step: Step, expected: usize, address: u32, bytes: &[u8], view: View)
             Step::CrcCount,
             uart::CHECKED_COUNT,
         ),
-        Step::ReadLength => read_ends(address, bytes),
+        Step::ReadLength => read_ends(here),
         Step::WriteLength => awaits(Step::WriteData, bytes),
-        Step::WriteData => write_ends(view, expected, address, bytes),
+        Step::WriteData => write_ends(here, view),
         Step::EraseSelector => selector_ends(bytes),
-        Step::SpecialCheck => special_ends(view, address, bytes),
-        Step::EraseList => erase_ends(view, expected, bytes),
+        Step::SpecialCheck => special_ends(here, view),
+        Step::EraseList => erase_ends(here, view),
         Step::ProtectLength => awaits(Step::ProtectList, bytes),
-        Step::ProtectList => protect_ends(expected, bytes),
-        Step::CrcCount => crc_ends(address, bytes),
+        Step::ProtectList => protect_ends(here),
+        Step::CrcCount => crc_ends(here.address, bytes),
     }
 }
 
 // What one more byte decides: it is gathered, or ends its step.
-pub fn heard(
-    step: u8,
-    taken: usize,
-    expected: usize,
-    address: u32,
-    bytes: &[u8],
-    view: View,
-) -> Decision
-    requires { (taken < expected) × T (expects (step_of step) expected) × (length bytes.now ≡ staged_bytes) }
-    ensures { result ≡ (if ltb (taken + 1) expected gives answer Silence Gather else complete (step_of step) expected address bytes.now view) }
+pub fn heard(step: Step, here: SoFar<'_>, view: View) -> Decision
+    requires { (here.taken < here.expected) × T (expects step here.expected) × (length here.staged.now ≡ staged_bytes) }
+    ensures { result ≡ (if ltb (here.entry.taken + 1) here.entry.expected gives answer Silence Gather
+        else complete step here.entry.expected here.entry.address here.entry.staged.now view) }
 {
-    let more = taken + 1 < expected;
+    let more = here.taken + 1 < here.expected;
     if more {
         command::answer(FixedReply::Silence, Next::Gather)
     } else {
-        complete(Step::of(step), expected, address, bytes, view)
+        complete(step, here, view)
     }
 }

@@ -7,6 +7,7 @@ ghost use Rattle.vector_lines.specs.Sizes.{session_bytes, reply_room, line_room}
 use crate::FIELDS;
 use boot::{Session, Taken};
 use desk_written::first::LINE_FEED;
+use memories::Lent;
 use std::io::Write;
 
 // The modulus of a digest's two sums, and how many bits each takes.
@@ -84,7 +85,7 @@ impl Line {
 }
 
 // The line that says what a call left: its cause, the reason of a NACK and its place, the reply, the session, and digests of what was lent.
-fn answer(taken: Taken, flash: &[u8], sram: &[u8], usd: &[u8], buffer: &[u8]) -> Line
+fn answer(taken: Taken, lent: &Lent<'_>, buffer: &[u8]) -> Line
     requires { length buffer.now ≤ reply_room }
 {
     let mut line = Line::begun();
@@ -93,9 +94,9 @@ fn answer(taken: Taken, flash: &[u8], sram: &[u8], usd: &[u8], buffer: &[u8]) ->
     line.bytes(&taken.length.to_be_bytes());
     line.bytes(&buffer[..taken.length.min(buffer.len())]);
     line.session(taken.session);
-    line.digest(flash);
-    line.digest(sram);
-    line.digest(usd);
+    line.digest(lent.flash);
+    line.digest(lent.sram);
+    line.digest(lent.usd);
     line.digest(buffer);
     line
 }
@@ -104,12 +105,10 @@ fn answer(taken: Taken, flash: &[u8], sram: &[u8], usd: &[u8], buffer: &[u8]) ->
 pub fn report<W: Write>(
     to: &mut W,
     taken: Taken,
-    flash: &[u8],
-    sram: &[u8],
-    usd: &[u8],
+    lent: &Lent<'_>,
     buffer: &[u8],
 ) -> std::io::Result<()>
     requires { length buffer.now ≤ reply_room }
 {
-    answer(taken, flash, sram, usd, buffer).write(to)
+    answer(taken, lent, buffer).write(to)
 }

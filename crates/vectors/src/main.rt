@@ -1,6 +1,7 @@
 // Makes single calls that vectors describe, each on a session, memories and a reply buffer of its own, and prints what each left (docs/VECTORS.md).
 #![tactic(auto)]
 
+use memories::Lent;
 use std::io::{Read, Write};
 use vector_lines::report;
 use vector_lines::vector::{Input, Vector};
@@ -15,16 +16,18 @@ fn turn<F: Read, W: Write>(from: &mut F, to: &mut W) -> Option<()> {
     let mut sram = io::large_buffer();
     let mut usd = io::buffer();
     let mut buffer = io::buffer();
-    let flash = vector.flash(&mut flash);
-    let sram = vector.sram(&mut sram);
-    let usd = vector.usd(&mut usd);
+    let mut lent = Lent {
+        flash: vector.flash(&mut flash),
+        sram: vector.sram(&mut sram),
+        usd: vector.usd(&mut usd),
+    };
     let buffer = vector.buffer(&mut buffer);
     let before = vector.session();
     let taken = match vector.input() {
-        Input::Byte(byte) => before.take_byte(byte, flash, sram, usd, buffer),
-        Input::Frame(frame) => before.take_frame(frame, flash, sram, usd, buffer),
+        Input::Byte(byte) => before.take_byte(byte, &mut lent, buffer),
+        Input::Frame(frame) => before.take_frame(frame, &mut lent, buffer),
     };
-    report::report(to, taken, flash, sram, usd, buffer).ok()
+    report::report(to, taken, &lent, buffer).ok()
 }
 
 fn main(rt: HostRuntime) {

@@ -23,6 +23,7 @@ fn double(tables: &mut [u32], at: usize, n: usize, bit: u32)
     ensures { Doubled at n n bit tables.old tables.new }
 {
     let middle = at + n;
+    // Kept: both places stand in one slice, so a zip would need the slice split and cut first.
     for i in 0..n {
         tables[middle + i] = tables[at + i] ^ bit;
     }

@@ -7,7 +7,7 @@ use native.Mathlib.Nat.{le_of_suc-le-suc, not-suc-le-zero, zero-add, suc-add}
 use native.Mathlib.Numerals.{add-one}
 use native.Mathlib.Omega.{arith}
 use lib.Dec.{leb, ltb}
-use lib.ListN.{length, get_or, set, take, drop, replicate, length-replicate, replicate-append-replicate}
+use lib.ListN.{length, get_or, set, take, drop}
 use lib.Seq.{take-suc, take-append_seam, drop-length, length-take-le}
 use borrow.Author.Tests.{leb-true, leb-false, ltb-true, ltb-false}
 use borrow.Rule.Slice.PartMut.{put_mid}
@@ -100,16 +100,6 @@ module _ (f : ℕ → ℕ → ℕ) where
       let old : get_or (over f m at (take j new)) (at + j) 0 ≡ get_or m (at + j) 0 =
       over_behind f m at (take j new) (at + j) (omega arith) in
       rw (old, add-one, take-suc new j 0) (rw e at (over_snoc m at (take j new) (get_or new j 0) (rw e h)))
-
-  -- a turn that lays one byte again
-  pub over_again : (m : List ℕ) (at b j : ℕ) → at + j < length m
-      → set (over f m at (replicate j b)) (at + j) (f (get_or (over f m at (replicate j b)) (at + j) 0) b)
-      ≡ over f m at (replicate (j + 1) b)
-  over_again m at b j h =
-      let e : length (replicate j b) ≡ j = length-replicate j b in
-      let old : get_or (over f m at (replicate j b)) (at + j) 0 ≡ get_or m (at + j) 0 =
-      over_behind f m at (replicate j b) (at + j) (omega arith) in
-      rw (old, ← replicate-append-replicate j 1 b) (rw e at (over_snoc m at (replicate j b) b (rw e h)))
 
 -- a first byte stored, and the rest put from the next place on
 pub put_cons : (m : List ℕ) (b : ℕ) (new : List ℕ) → 0 < length m → put (set m 0 b) 1 new ≡ put m 0 (b ∷ new)

@@ -1,13 +1,13 @@
--- Laws of a list cut into pieces: the first piece, what remains, and where the next one ends.
+-- Laws of a list cut into pieces: the first piece, and what remains.
 use mathlib.Core.Path.{◌≡◌, refl, sym, ap, ◌∙◌}
 use mathlib.Core.Bool.{Bool, true, false}
-use mathlib.Core.List.{List, [], ◌∷◌}
+use mathlib.Core.List.{List, [], ◌∷◌, ◌++◌, append-nil}
 use Prim.Native.Nat.{ℕ, zero, suc, ◌+◌, ◌-◌, ◌≤◌, ◌<◌, min}
 use native.Mathlib.Nat.{not-suc-le-zero, le_of_suc-le-suc, min-eq_left, min-eq_right}
 use native.Mathlib.Omega.{arith}
 use lib.Dec.{leb}
-use lib.ListN.{length, take, drop, length-drop}
-use lib.Seq.{take_all, drop-drop, drop-length}
+use lib.ListN.{length, take, drop, length-append, length-drop, drop_of_length-le}
+use lib.Seq.{take_all, take_at, drop_at}
 use borrow.Author.Tests.{leb-true, leb-false}
 use Rattle.words.specs.Lists.{cut_up_to, cut}
 
@@ -30,36 +30,20 @@ cut_more n (x ∷ xs) p h =
     let d = length-drop n (x ∷ xs) in
     ap (λ (ls : List (List ℕ)). take n (x ∷ xs) ∷ ls) (enough (length xs) (length (drop n (x ∷ xs))) n (drop n (x ∷ xs)) (omega arith) (omega arith) p)
 
-drop_all : (n : ℕ) (l : List ℕ) → length l ≤ n → drop n l ≡ []
-drop_all zero [] h = refl
-drop_all zero (x ∷ xs) h = absurd (not-suc-le-zero h)
-drop_all (suc n) [] h = refl
-drop_all (suc n) (x ∷ xs) h = drop_all n xs (le_of_suc-le-suc h)
+-- a list without length has nothing
+pub nothing : (t : List ℕ) → length t ≡ 0 → t ≡ []
+nothing [] g = refl
+nothing (x ∷ t) g = absurd (omega arith)
 
--- a turn: the next piece ends where it is full or the bytes do
-pub next_piece : (s : List ℕ) (i n : ℕ) → i < length s → 0 < n
-    → (take (min (length s - i) n + i - i) (drop i s) ≡ take n (drop i s)) × (drop (min (length s - i) n + i) s ≡ drop n (drop i s))
-    × (i < min (length s - i) n + i) × (min (length s - i) n + i ≤ length s)
-next_piece s i n h p = by_order (leb n (length s - i)) refl
+-- a chunk that comes off the front is the first piece, and short only where less is left
+pub cut_chunk : (n : ℕ) (p l : List ℕ) → 0 < n → 0 < length (p ++ l) → length p ≡ min n (length (p ++ l)) → cut n (p ++ l) ≡ p ∷ cut n l
+cut_chunk n p l z h e = by_order (leb n (length (p ++ l))) refl
   where
-    by_order : (t : Bool) → leb n (length s - i) ≡ t
-        → (take (min (length s - i) n + i - i) (drop i s) ≡ take n (drop i s)) × (drop (min (length s - i) n + i) s ≡ drop n (drop i s))
-        × (i < min (length s - i) n + i) × (min (length s - i) n + i ≤ length s)
-    by_order true e =
-        let k = leb-true n (length s - i) e in
-        let m : min (length s - i) n ≡ n = min-eq_right k in
-        let a : n + i - i ≡ n = omega arith in
-        let b : n + i ≡ i + n = omega arith in
-        rw (m, a) (refl, ap (λ (j : ℕ). drop j s) b ∙ sym (drop-drop n i s), omega arith, omega arith)
-    by_order false e =
-        let k = leb-false n (length s - i) e in
-        let m : min (length s - i) n ≡ length s - i = min-eq_left (omega arith) in
-        let a : length s - i + i - i ≡ length s - i = omega arith in
-        let b : length s - i + i ≡ length s = omega arith in
-        let d = length-drop i s in
-        rw (m, a, b) (
-          take_all (length s - i) (drop i s) (omega arith) ∙ sym (take_all n (drop i s) (omega arith)),
-          drop-length s ∙ sym (drop_all n (drop i s) (omega arith)),
-          omega arith,
-          omega arith,
-        )
+    by_order : (t : Bool) → leb n (length (p ++ l)) ≡ t → cut n (p ++ l) ≡ p ∷ cut n l
+    by_order true f =
+        let k : length p ≡ n = e ∙ min-eq_left (leb-true n (length (p ++ l)) f) in
+        cut_more n (p ++ l) z h ∙ rw (take_at p l n k, drop_at p l n k) refl
+    by_order false f =
+        let k : length p ≡ length (p ++ l) = e ∙ min-eq_right (omega (arith, leb-false n (length (p ++ l)) f)) in
+        let none : l ≡ [] = nothing l (omega (arith, length-append p l)) in
+        cut_more n (p ++ l) z h ∙ rw (none, append-nil, take_all n p (omega (arith, leb-false n (length (p ++ l)) f)), drop_of_length-le p {i = n} (omega (arith, leb-false n (length (p ++ l)) f))) refl

@@ -1,7 +1,7 @@
 // Bytes, the numbers that they write, and slices of them.
 #![tactic(auto)]
 
-ghost use Rattle.std.specs.Prelude.{◌≡◌, [], ◌∷◌, ◌+◌, ◌≤◌, ◌<◌, min, eqb, length, get_or, take, drop, replicate};
+ghost use Rattle.std.specs.Prelude.{◌≡◌, [], ◌∷◌, ◌+◌, ◌≤◌, ◌<◌, eqb, length, get_or, replicate};
 ghost use Rattle.std.specs.Int.Bits.{bit_and};
 ghost use Rattle.words.specs.Bytes.{complement, number, xor_from};
 ghost use Rattle.words.specs.Over.{over, put};
@@ -44,26 +44,11 @@ pub fn first(bytes: &[u8]) -> u8
     bytes[0]
 }
 
-// The lesser of two numbers.
-pub fn least(a: usize, b: usize) -> usize
-    ensures { result ≡ min a b }
-{
-    a.min(b)
-}
-
 // The XOR of a byte and of some bytes.
 pub fn xor(start: u8, bytes: &[u8]) -> u8
     ensures { result ≡ xor_from start bytes.now }
 {
     bytes.iter().fold(start, |sum, byte| sum ^ *byte)
-}
-
-// The XOR of a byte and the first n of some bytes.
-pub fn xor_from(start: u8, bytes: &[u8], n: usize) -> u8
-    requires { n ≤ length bytes.now }
-    ensures { result ≡ xor_from start (take n bytes.now) }
-{
-    xor(start, &bytes[..n])
 }
 
 // Lays bytes over a memory in place of the old ones.
@@ -74,15 +59,6 @@ pub fn lay(memory: &mut [u8], at: usize, bytes: &[u8])
     memory[at..at + bytes.len()].copy_from_slice(bytes);
 }
 
-// Lays n bytes, from a place of theirs on, over a memory in place of the old ones.
-pub fn copy(memory: &mut [u8], at: usize, bytes: &[u8], from: usize, n: usize)
-    requires n_in_bounds { at + n ≤ length memory.old }
-    requires n_in_bounds_2 { from + n ≤ length bytes.now }
-    ensures { memory.new ≡ put memory.old at (take n (drop from bytes.now)) }
-{
-    lay(memory, at, &bytes[from..from + n]);
-}
-
 // Lays bytes over a memory, each joined with the old one by AND.
 pub fn lay_by_and(memory: &mut [u8], at: usize, bytes: &[u8])
     requires { at + length bytes.now ≤ length memory.old }
@@ -91,15 +67,6 @@ pub fn lay_by_and(memory: &mut [u8], at: usize, bytes: &[u8])
     for (i, byte) in bytes.iter().enumerate() {
         memory[at + i] &= *byte;
     }
-}
-
-// Lays the first n of some bytes over a memory, each joined with the old one by AND.
-pub fn join_by_and(memory: &mut [u8], at: usize, bytes: &[u8], n: usize)
-    requires n_in_bounds { at + n ≤ length memory.old }
-    requires n_in_bounds_2 { n ≤ length bytes.now }
-    ensures { memory.new ≡ over bit_and memory.old at (take n bytes.now) }
-{
-    lay_by_and(memory, at, &bytes[..n]);
 }
 
 // Lays one byte n times over a memory.

@@ -3,8 +3,7 @@ use native.Mathlib.Omega.{arith}
 use mathlib.Core.Path.{sym, ◌∙◌}
 use lib.ListN.{length-set}
 use lib.Seq.{length-take-le}
-use Rattle.memories.specs.Lent.{held}
-use Rattle.memories.specs.Memories.{memories}
+use Rattle.memories.specs.Lent.{holds}
 use Rattle.boot.specs.Promise.{state_of}
 use Rattle.desk_answers.specs.Answers as A
 use Rattle.desk_answers.specs.Answers.{calls_of}
@@ -19,8 +18,8 @@ tell_line-told-requires c = record {
   line_in_bounds_2 = omega (arith, c.requires.line_len_bound);
 }
 
-pub bounds-out-end : goal.bounds-out-end
-bounds-out-end c =
+pub bounds-out-told : goal.bounds-out-told
+bounds-out-told c =
     let k = c.tell_line-told.auto.out ∙ length-set c.args.out.now c.args.at 62 in
     omega (arith, c.tell_line-told.ensures.fits.0, k)
 
@@ -29,8 +28,8 @@ slice_bounds-explain_all-end c =
     sym (length-take-le c.tell_line-told.result.noted c.tell_line-told.new.notes
     (omega (arith, c.tell_line-told.ensures.fits.1, c.tell_line-told.auto.notes, c.requires.line_len_bound)))
 
-pub overflow_add-end : goal.overflow_add-end
-overflow_add-end c = omega (arith, c.tell_line-told.ensures.fits.0, c.requires.line_in_bounds)
+pub overflow_add-told : goal.overflow_add-told
+overflow_add-told c = omega (arith, c.tell_line-told.ensures.fits.0, c.requires.line_in_bounds)
 
 pub explain_all-requires : goal.explain_all-requires
 explain_all-requires c =
@@ -50,8 +49,8 @@ pub returns : goal.returns
 returns c =
     let made = c.tell_line-told in
     let is = calls_of c.args.kind c.args.line.now in
-    let p = state_of c.args.session (held c.args.flash c.args.sram c.args.usd) in
-    let q = state_of made.result.session (memories made.new.flash made.new.sram made.new.usd) in
+    let p = state_of c.args.session (holds c.args.lent.now) in
+    let q = state_of made.result.session (holds made.new.lent) in
     let l =
     length-take-le made.result.noted made.new.notes
     (omega (arith, made.ensures.fits.1, made.auto.notes, c.requires.line_len_bound)) in
@@ -61,4 +60,5 @@ returns c =
           (rw (front_noted (A.notes is p) made.ensures.noted (omega (arith, made.ensures.fits.1, c.requires.line_len_bound))) at
           c.explain_all.ensures.added);
       fits = omega (arith, made.ensures.fits.0, made.ensures.fits.1, c.explain_all.ensures.short);
+      same = made.ensures.same;
     }

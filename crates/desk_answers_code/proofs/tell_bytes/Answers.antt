@@ -44,4 +44,4 @@ returns c =
     let s = stand (goal.at.returns c).After-bytes-n in
     let e = c.tell_all.ensures in
     let f = rw s at e.fits in
-    record { told = rw s at e.told; noted = rw s at e.noted; fits = (omega (arith, f.0), omega (arith, f.1)) }
+    record { told = rw s at e.told; noted = rw s at e.noted; fits = (omega (arith, f.0), omega (arith, f.1)); same = e.same }

@@ -6,8 +6,8 @@ use Prim.Native.Nat.{ℕ, ◌%◌, ◌≤◌}
 use lib.ListN.{length, take, replicate}
 use lib.Seq.{length-take-le}
 use Rattle.frames.specs.Frames.{classic, frame_bytes}
-use Rattle.memories.specs.Lent.{held}
-use Rattle.memories.specs.Memories.{Memories, memories}
+use Rattle.memories.specs.Lent.{holds}
+use Rattle.memories.specs.Memories.{Memories}
 use Rattle.boot.specs.Calls.{Input, Framed}
 use Rattle.boot.specs.Promise.{Left, left, Given, given_frame, state_of, outcome}
 use Rattle.desk_lines.proofs.Lines.{frame_good}
@@ -20,10 +20,10 @@ use Rattle.desk_answers_code.proofs.tell_frame.Goals.{After-take_frame-taken}
 
 -- the memories before the call and after it, what it was given, and what it left
 abbrev before : After-take_frame-taken → Memories
-before c = held c.args.flash c.args.sram c.args.usd
+before c = holds c.args.lent.now
 
 abbrev after : After-take_frame-taken → Memories
-after c = let last = c.take_frame-taken.new in memories last.flash last.sram last.usd
+after c = holds c.take_frame-taken.new.lent
 
 abbrev given : After-take_frame-taken → Given
 given c = given_frame c.args.begun.session c.frame.new.out (before c) (replicate desk_room 0)
@@ -33,7 +33,7 @@ leaves c = left c.take_frame-taken.result (after c) c.take_frame-taken.new.buffe
 
 -- its reply is no longer than the room lent for it, and stands there whole
 fits : (c : After-take_frame-taken) → c.take_frame-taken.result.length ≤ desk_room
-fits c = took_fits (given c) (leaves c) c.take_frame-taken.ensures c.take_frame-taken.auto.buffer
+fits c = took_fits (given c) (leaves c) c.take_frame-taken.ensures.took c.take_frame-taken.auto.buffer
 
 whole : (c : After-take_frame-taken) → length (take c.take_frame-taken.result.length (leaves c).buffer) ≡ c.take_frame-taken.result.length
 whole c =
@@ -51,7 +51,7 @@ unfolding outcome
 frames-end-requires c =
     let taken = (goal.at.frames-end-requires c).After-take_frame-taken in
     let o = frame_good c.args.rest.now c.requires.t in (
-      ap (λ (r : List ℕ). length r % frame_bytes classic) (took_reply (given taken) (leaves taken) c.take_frame-taken.ensures)
+      ap (λ (r : List ℕ). length r % frame_bytes classic) (took_reply (given taken) (leaves taken) c.take_frame-taken.ensures.took)
           ∙ frame_whole desk_room c.frame.new.out (given taken).state,
       omega (arith, whole taken, fits taken, o.long, c.requires.rest_in_bounds),
     )
@@ -77,13 +77,14 @@ returns c =
           c.frame.ensures
           (one_call reply_of (Framed desk_room frame) p c.args.begun.end printed.result c.args.out.now out q
           (input_told input c.args.begun.session (before taken) lent refl
-          c.take_frame-taken.result (after taken) (leaves taken).buffer c.take_frame-taken.ensures c.args.begun.end printed.result
+          c.take_frame-taken.result (after taken) (leaves taken).buffer c.take_frame-taken.ensures.took c.args.begun.end printed.result
           c.args.out.now out printed.ensures.0 printed.ensures.2));
       noted = subst (λ (w : List ℕ). Tells (A.notes (Framed desk_room w ∷ []) p) c.args.begun.noted c.args.notes.now noted.result notes q)
           c.frame.ensures
           (one_call why_of (Framed desk_room frame) p c.args.begun.noted noted.result c.args.notes.now notes q
           (input_noted input c.args.begun.session (before taken) lent refl
-          c.take_frame-taken.result (after taken) (leaves taken).buffer c.take_frame-taken.ensures c.args.begun.noted noted.result
+          c.take_frame-taken.result (after taken) (leaves taken).buffer c.take_frame-taken.ensures.took c.args.begun.noted noted.result
           c.args.notes.now notes noted.ensures.noted));
       fits = (omega (arith, printed.ensures.1, whole taken, fits taken, o.long), omega (arith, noted.ensures.few, o.long));
+      same = c.take_frame-taken.ensures.same;
     }

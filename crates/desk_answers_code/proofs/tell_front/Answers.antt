@@ -1,11 +1,12 @@
 -- Nothing is told of what is only gathered; of the byte behind it the front of the room is printed, and its NACK noted.
 use native.Mathlib.Omega.{arith}
-use mathlib.Core.Path.{◌≡◌, refl}
+use mathlib.Core.Path.{◌≡◌, refl, sym}
 use mathlib.Core.List.{List, map}
 use Prim.Native.Nat.{ℕ, suc, ◌+◌, ◌≤◌}
-use lib.ListN.{get_or, take, drop, replicate}
-use Rattle.memories.specs.Lent.{held}
-use Rattle.memories.specs.Memories.{Memories, memories}
+use lib.ListN.{length, get_or, take, drop, replicate}
+use lib.Seq.{length-take-le}
+use Rattle.memories.specs.Lent.{holds}
+use Rattle.memories.specs.Memories.{Memories}
 use Rattle.boot.specs.Session.{gathered}
 use Rattle.boot.specs.Calls.{State, Byte}
 use Rattle.boot.specs.Promise.{Left, left, state_of, Given, given_byte}
@@ -18,10 +19,10 @@ use Rattle.desk_answers_code.proofs.tell_front.Goals.{After-take_front-front}
 
 -- the memories before the call that was made, and after it
 abbrev before : After-take_front-front → Memories
-before c = held c.args.flash c.args.sram c.args.usd
+before c = holds c.args.lent.now
 
 abbrev after : After-take_front-front → Memories
-after c = let last = c.take_front-front.new in memories last.flash last.sram last.usd
+after c = holds c.take_front-front.new.lent
 
 -- the bytes that were only gathered, the session with them, and the byte behind them
 abbrev silent : After-take_front-front → ℕ
@@ -42,12 +43,20 @@ leaves c = left c.take_front-front.result.taken (after c) c.take_front-front.new
 
 -- its reply is no longer than the room lent for it
 fits : (c : After-take_front-front) → c.take_front-front.result.taken.length ≤ desk_room
-fits c = took_fits (given c) (leaves c) c.take_front-front.ensures.took c.take_front-front.auto.buffer
+fits c = took_fits (given c) (leaves c) c.take_front-front.ensures.took.took c.take_front-front.auto.buffer
+
+-- and is as long as is said
+long : (c : After-take_front-front)
+    → length (take c.take_front-front.result.taken.length c.take_front-front.new.buffer) ≡ c.take_front-front.result.taken.length
+long c = length-take-le c.take_front-front.result.taken.length c.take_front-front.new.buffer (omega (arith, fits c, c.take_front-front.auto.buffer))
+
+pub slice_bounds-bytes-end : goal.slice_bounds-bytes-end
+slice_bounds-bytes-end c = sym (long (goal.at.slice_bounds-bytes-end c).After-take_front-front)
 
 pub bytes-end-requires : goal.bytes-end-requires
 bytes-end-requires c =
     let taken = (goal.at.bytes-end-requires c).After-take_front-front in
-    (omega (arith, fits taken, taken.take_front-front.auto.buffer), omega (arith, fits taken, c.requires.field_characters_in_bounds))
+    omega (arith, long taken, fits taken, c.requires.field_characters_in_bounds)
 
 pub note-noted-requires : goal.note-noted-requires
 note-noted-requires c = omega (arith, c.requires.note_numbers_in_bounds)
@@ -58,7 +67,8 @@ returns c =
     let taken = (goal.at.returns c).After-take_front-front in
     let noted = c.note-noted in
     let printed = c.bytes-end in
-    let k = c.take_front-front.ensures in
+    let k = c.take_front-front.ensures.took in
+    let end = rw (long taken) at printed.ensures.0 in
     let lent : List ℕ = replicate desk_room 0 in
     let begun : State = state_of c.args.begun.session (before taken) in
     let here : State = state_of (session taken) (before taken) in
@@ -71,12 +81,13 @@ returns c =
           (told_as (front_told reply_of (λ b p. refl) c.args.bytes.now (silent taken) begun k.within k.silent) c.args.begun.end c.args.out.now)
           (byte_told (session taken) (byte taken) (before taken) lent refl c.take_front-front.result.taken (after taken)
           (leaves taken).buffer k.took c.args.begun.end printed.result c.args.out.now printed.new.out
-          printed.ensures.0 printed.ensures.1));
+          end printed.ensures.1));
       noted = rw e
           (one_told (made why_of (Byte desk_room (byte taken)) here) (notes others)
           (told_as (front_told why_of (λ b p. refl) c.args.bytes.now (silent taken) begun k.within k.silent) c.args.begun.noted c.args.notes.now)
           (input_noted (λ (n : ℕ). Byte n (byte taken)) (session taken) (before taken) lent refl c.take_front-front.result.taken (after taken)
           (leaves taken).buffer k.took c.args.begun.noted noted.result c.args.notes.now noted.new.notes
           noted.ensures.noted));
-      fits = (omega (arith, fits taken, printed.ensures.0), noted.ensures.few);
+      fits = (omega (arith, fits taken, end), noted.ensures.few);
+      same = c.take_front-front.ensures.same;
     }

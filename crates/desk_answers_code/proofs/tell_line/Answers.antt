@@ -1,9 +1,9 @@
 -- A line of bytes or of a frame is told behind the character that says its kind; power on tells nothing, and another line makes no call.
 use native.Mathlib.Omega.{arith}
-use mathlib.Core.Path.{sym, ◌∙◌}
+use mathlib.Core.Path.{refl, sym, ◌∙◌}
 use lib.ListN.{length-drop}
 use Rattle.words.proofs.Slices.{to_the_end}
-use Rattle.memories.specs.Lent.{held}
+use Rattle.memories.specs.Lent.{holds}
 use Rattle.boot.specs.Calls.{powered}
 use Rattle.boot.specs.Promise.{state_of}
 use Rattle.desk_lines.proofs.Lines.{bytes_line, frame_line}
@@ -60,6 +60,7 @@ returns-in-Bytes c =
       told = rw c.in-Bytes.is (rw (to_the_end 1 l) at e.told);
       noted = rw c.in-Bytes.is (rw (to_the_end 1 l) at e.noted);
       fits = (omega (arith, f.0), omega (arith, f.1));
+      same = e.same;
     }
 
 pub returns-in-Frame : goal.returns-in-Frame
@@ -71,24 +72,27 @@ returns-in-Frame c =
       told = rw c.in-Frame.is (rw (to_the_end 1 l) at e.told);
       noted = rw c.in-Frame.is (rw (to_the_end 1 l) at e.noted);
       fits = (omega (arith, f.0), omega (arith, f.1));
+      same = e.same;
     }
 
 pub returns-in-PowerOn : goal.returns-in-PowerOn
 returns-in-PowerOn c =
-    let m = held c.args.flash c.args.sram c.args.usd in
+    let m = holds c.args.lent.now in
     let p = state_of c.args.begun.session m in
     record {
       told = rw (c.in-PowerOn.is, power_told p, c.power_on.ensures.session) (nothing_told (powered m) c.args.begun.end c.args.out.now);
       noted = rw (c.in-PowerOn.is, power_noted p, c.power_on.ensures.session) (nothing_told (powered m) c.args.begun.noted c.args.notes.now);
       fits = (omega arith, omega arith);
+      same = record { flash = refl; sram = refl; usd = refl };
     }
 
 pub returns-in-Other : goal.returns-in-Other
 unfolding makes
 returns-in-Other c =
-    let p = state_of c.args.begun.session (held c.args.flash c.args.sram c.args.usd) in
+    let p = state_of c.args.begun.session (holds c.args.lent.now) in
     record {
       told = rw c.in-Other.is (nothing_told p c.args.begun.end c.args.out.now);
       noted = rw c.in-Other.is (nothing_told p c.args.begun.noted c.args.notes.now);
       fits = (omega arith, omega arith);
+      same = record { flash = refl; sram = refl; usd = refl };
     }

@@ -1,8 +1,7 @@
 -- The line is answered; the lines behind it are passed, and each is answered by `>`.
 use native.Mathlib.Omega.{arith}
 use mathlib.Core.Path.{refl, sym, subst}
-use Rattle.memories.specs.Lent.{held}
-use Rattle.memories.specs.Memories.{memories}
+use Rattle.memories.specs.Lent.{holds}
 use Rattle.desk_answers.specs.Desk.{Desk, line_ends}
 use Rattle.desk_answers.specs.Promise.{Tells}
 use Rattle.desk_hearing.specs.Promise.{desk_of}
@@ -27,22 +26,13 @@ overflow_add-result c =
     let p = c.gather-gathered.ensures in
     omega (arith, p.few, p.within, c.end_line-next.ensures.counts.1, c.requires.rest_bound)
 
-pub shape_of-flash : goal.shape_of-flash
-shape_of-flash c = c.end_line-next.auto.flash
-
-pub shape_of-sram : goal.shape_of-sram
-shape_of-sram c = c.end_line-next.auto.sram
-
-pub shape_of-usd : goal.shape_of-usd
-shape_of-usd c = c.end_line-next.auto.usd
-
 pub returns : goal.returns
 returns c =
     let p = c.gather-gathered.ensures in
     let next = c.end_line-next in
     let b = next.ensures in
-    let d = desk_of c.args.desk c.args.line.now (held c.args.flash c.args.sram c.args.usd) in
-    let m = memories next.new.flash next.new.sram next.new.usd in
+    let d = desk_of c.args.desk c.args.line.now (holds c.args.lent.now) in
+    let m = holds next.new.lent in
     record {
       told = rw c.nod-end.ensures.text
           (gone_on d c.args.rest.now next.result.why next.result.session c.gather-gathered.result.session m
@@ -54,4 +44,5 @@ returns c =
       within = p.within;
       fits = omega (arith, b.fits, p.few, c.nod-end.ensures.end);
       counts = (refl, omega (arith, b.counts.1, p.few));
+      same = b.same;
     }

@@ -1,5 +1,5 @@
 -- By the image's length and what going through the lines finds, which lays them into a copy.
-use Rattle.std.proofs.Common.{◌≡◌, ℕ, Err, refl, sym, ◌∙◌, rules, w16}
+use Rattle.std.proofs.Common.{◌≡◌, ℕ, Err, refl, arith, ap, length, sym, ◌∙◌, rules, w16}
 use Rattle.std.proofs.lemmas.Int.{to_z-of_z}
 use Rattle.std.proofs.lemmas.List.{length-replicate}
 use Rattle.loading.specs.Loads.{untouched}
@@ -13,7 +13,7 @@ returns-then-wrong-clause-loads c =
 
 pub fold-requires : goal.fold-requires
 unfolding untouched
-fold-requires c = (rw c.requires (length-replicate {A = ℕ} 32768 0), rw c.copy_from_slice.ensures.after c.if-wrong.false)
+fold-requires c = (rw c.requires (length-replicate {A = ℕ} 32768 0), omega (arith, c.if-wrong.false, ap length c.copy_from_slice.ensures.after))
 
 pub returns-in_err-fold-clause-loads : goal.returns-in_err-fold-clause-loads
 returns-in_err-fold-clause-loads c =

@@ -5,7 +5,7 @@ use lib.Dec.{T}
 use lib.ListN.{length}
 use Rattle.std.specs.Slice.Iter.{chunks_exact_rest, chunks_exact_size}
 use Rattle.words.specs.Lists.{all}
-use Rattle.board.specs.Quantities.{is_sector, numbered, first_numbered}
+use Rattle.board.specs.Quantities.{is_sector, numbered}
 use Rattle.memories.specs.Effects.{erased}
 use Rattle.memories_code.proofs.erase_sectors.Given as goal
 
@@ -15,4 +15,4 @@ invariant-loop-number l =
     × (length (chunks_exact_rest l.number-iterator) % 2 ≡ 0)
     × (length l.flash ≡ length l.initial.flash)
     × T (all is_sector (numbered (chunks_exact_rest l.number-iterator)))
-    × (erased l.flash (numbered (chunks_exact_rest l.number-iterator)) ≡ erased l.initial.flash (first_numbered l.x l.staged))
+    × (erased l.flash (numbered (chunks_exact_rest l.number-iterator)) ≡ erased l.initial.flash (numbered l.numbers))

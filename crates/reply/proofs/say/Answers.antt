@@ -1,19 +1,20 @@
 use native.Mathlib.Omega.{arith}
+use Rattle.std.proofs.Math.Nat.{add-sub_cancel_left}
 use mathlib.Core.Path.{◌≡◌, subst, ◌∙◌}
 use lib.Dec.{T}
 use Rattle.command.specs.declared.Reply.{Reply}
-use mathlib.Core.List.{◌∷◌, append-nil}
+use mathlib.Core.List.{List, ◌∷◌, append-nil}
+use Prim.Native.Nat.{ℕ}
 use native.Mathlib.Numerals.{add-one}
 use lib.ListN.{length}
 use Rattle.words.specs.Lists.{part}
 use Rattle.words.proofs.Over.{put_front}
 use Rattle.words.proofs.Slices.{length_part}
-use Rattle.board.specs.declared.Region.TheVariants.{Flash}
 use Rattle.memories.specs.Lent.{holds}
 use Rattle.memories.specs.Memories.{bytes_of}
 use Rattle.memories.proofs.Memories.{proper_length}
-use Rattle.command.specs.Says.{says, fixed}
-use Rattle.command.proofs.Says.{data_there, crc_there}
+use Rattle.command.specs.Says.{says, fixed, Said}
+use Rattle.command.proofs.Says.{data_there}
 use Rattle.reply.proofs.Told.{fixed_said}
 use Rattle.reply.proofs.say.Goals as goal
 
@@ -21,15 +22,6 @@ pub say_data-requires : goal.say_data-requires
 say_data-requires c =
     let h = data_there c.args.reply c.requires.2 _ _ _ c.in-Data.is in
     (c.requires.1, h.0, h.1, omega arith)
-
-pub say_sum-requires : goal.say_sum-requires
-say_sum-requires c =
-    let h = crc_there c.args.reply c.requires.2 _ _ c.in-Crc.is in
-    let l = proper_length (holds c.args.lent.now) c.requires.1 Flash in
-    (omega arith, omega arith)
-
-pub copy-requires : goal.copy-requires
-copy-requires c = let e = c.fixed_bytes-fixed.ensures.0 in record { n_in_bounds = omega (arith, e.there, e.few); n_in_bounds_2 = omega (arith, e.there) }
 
 pub returns-in-Data : goal.returns-in-Data
 unfolding says
@@ -54,7 +46,7 @@ unfolding says
 returns-in-Crc c = (
   λ list t. rw c.in-Crc.is (record {
     count = c.say_sum.ensures.0;
-    buffer = c.say_sum.ensures.1 ∙ put_front c.args.buffer.now _ (omega arith);
+    buffer = (rw (add-sub_cancel_left c.in-Crc.at c.in-Crc.n) at c.say_sum.ensures.1) ∙ put_front c.args.buffer.now _ (omega arith);
   }),
   omega (arith, c.say_sum.ensures.0),
   λ t. absurd (subst (λ (z : Reply). T (fixed z)) c.in-Crc.is t),
@@ -63,10 +55,10 @@ returns-in-Crc c = (
 pub returns-in-Fixed : goal.returns-in-Fixed
 unfolding says
 returns-in-Fixed c =
-    let r = c.fixed_bytes-fixed.result in
-    let e = c.fixed_bytes-fixed.ensures in (
-      λ list t. rw c.in-Fixed.is (fixed_said r.bytes _ c.args.buffer.now _ r.count e.0.there
-          (omega (arith, e.0.there, e.0.few)) (e.1 list t) c.copy.ensures),
-      omega (arith, e.0.there, e.0.few),
-      λ t. omega (arith, e.0.there, e.0.few),
+    let r = c.fixed_bytes-bytes.result.now in
+    let e = c.fixed_bytes-bytes.ensures in
+    let said = fixed_said r c.args.buffer.now c.lay.new.memory (omega (arith, e.few)) c.lay.ensures in (
+      λ list t. rw c.in-Fixed.is (subst (λ (b : List ℕ). Said b (length r) c.args.buffer.now c.lay.new.memory) (e.told list t) said),
+      omega (arith, e.few),
+      λ t. e.few,
     )

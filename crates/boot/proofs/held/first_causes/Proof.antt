@@ -2,15 +2,15 @@
 use mathlib.Core.Path.{◌≡◌, refl}
 use mathlib.Core.Bool.{Bool, true, false, not}
 use lib.Dec.{eqb, leb}
-use Rattle.std.specs.Prelude.{if◌then◌else◌}
+use Rattle.std.specs.Prelude.{if◌then◌else◌, Err}
 use Rattle.frames.specs.Frames.{classic, is_frame}
 use Rattle.memories.specs.Memories.{proper}
 use Rattle.boot.specs.Session.{sound}
-use Rattle.boot.specs.Causes.{cause_no, cause_of}
+use Rattle.boot.specs.Causes.{accepted, cause_no, cause_of}
 use Rattle.boot.specs.Calls.{cause_for}
 use Rattle.boot.specs.Slices.{slice_cause}
 use Rattle.boot.specs.Refusals.{FirstCauses}
-use Rattle.boot.specs.declared.Cause.TheVariants.{Accepted, UnsoundSession, BoardRunning}
+use Rattle.boot.specs.declared.Cause.TheVariants.{UnsoundSession, BoardRunning}
 use Rattle.boot.specs.declared.Session.{Session}
 use Rattle.boot.proofs.held.first_causes.Statement.{statement}
 use Rattle.boot.proofs.held.first_causes.Tie as tie
@@ -25,7 +25,7 @@ first true true false s = refl
 first true true true s = by_session (sound s) (eqb s.carrier 3)
   where
     by_session : (firm running : Bool)
-        → cause_no (if not firm then UnsoundSession else if running then BoardRunning else Accepted) ≡ (if not firm then 4 else if running then 5 else 0)
+        → cause_no (if not firm then Err UnsoundSession else if running then Err BoardRunning else accepted) ≡ (if not firm then 4 else if running then 5 else 0)
     by_session false running = refl
     by_session true false = refl
     by_session true true = refl

@@ -7,17 +7,17 @@ use native.Mathlib.Omega.{arith}
 use lib.Dec.{T, leb}
 use lib.ListN.{length, length-append}
 use borrow.Author.Tests.{le-leb}
-use Rattle.std.specs.Prelude.{if◌then◌else◌}
+use Rattle.std.specs.Prelude.{if◌then◌else◌, Err}
 use Rattle.words.proofs.Tests.{both_right, holds_true}
 use Rattle.memories.specs.Memories.{proper}
 use Rattle.boot.specs.Session.{on, sound}
-use Rattle.boot.specs.Causes.{cause_of, accepts}
+use Rattle.boot.specs.Causes.{accepted, cause_of, accepts}
 use Rattle.boot.specs.Calls.{State, Byte, Outcome, cause_for, call, outcomes, run}
 use Rattle.boot.specs.Slices.{one_by_one, how_many, slice_cause}
 use Rattle.boot.specs.Stops.{replies_before}
 use Rattle.boot.specs.Firm.{Firm, AreBytes, RunsAt, RefusedMidway}
 use Rattle.carriers.specs.declared.Carrier.TheVariants.{Running}
-use Rattle.boot.specs.declared.Cause.TheVariants.{Accepted, WrongMemory, UnsoundSession, BoardRunning}
+use Rattle.boot.specs.declared.Cause.TheVariants.{WrongMemory, UnsoundSession, BoardRunning}
 use Rattle.boot.specs.declared.Session.{Session}
 use Rattle.boot.proofs.Causes.{refused_call, accepted_clear}
 use Rattle.boot.proofs.Firm.{leaves_firm}
@@ -25,20 +25,20 @@ use Rattle.boot.proofs.held.refused_midway.Statement.{statement}
 use Rattle.boot.proofs.held.refused_midway.Tie as tie
 
 -- of the five causes only the last refuses with right memories, room and a sound session
-last_cause : (m : Bool) (s : Session) → T m → T (sound s) → accepts (cause_of m true true s) ≡ false → cause_of m true true s ≡ BoardRunning
+last_cause : (m : Bool) (s : Session) → T m → T (sound s) → accepts (cause_of m true true s) ≡ false → cause_of m true true s ≡ Err BoardRunning
 unfolding cause_of
 last_cause m s t k e = by_tests m (sound s) (on Running s) t k e
   where
     by_tests : (m k r : Bool) → T m → T k
-        → accepts (if not m then WrongMemory else if not k then UnsoundSession else if r then BoardRunning else Accepted) ≡ false
-        → (if not m then WrongMemory else if not k then UnsoundSession else if r then BoardRunning else Accepted) ≡ BoardRunning
+        → accepts (if not m then Err WrongMemory else if not k then Err UnsoundSession else if r then Err BoardRunning else accepted) ≡ false
+        → (if not m then Err WrongMemory else if not k then Err UnsoundSession else if r then Err BoardRunning else accepted) ≡ Err BoardRunning
     by_tests true true true t k e = refl
     by_tests true true false t k e = absurd (subst T e tt)
     by_tests true false r t k e = absurd k
     by_tests false k r t h e = absurd t
 
 -- so a byte with room enough
-refused_runs : (b : ℕ) (p : State) → Firm p → accepts (call (Byte 257 b) p).cause ≡ false → (call (Byte 257 b) p).cause ≡ BoardRunning
+refused_runs : (b : ℕ) (p : State) → Firm p → accepts (call (Byte 257 b) p).cause ≡ false → (call (Byte 257 b) p).cause ≡ Err BoardRunning
 unfolding cause_for
 refused_runs b p k e =
     let c = ap (λ (o : Outcome). o.cause) (refused_call (Byte 257 b) p e) in

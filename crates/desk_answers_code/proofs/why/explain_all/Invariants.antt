@@ -1,14 +1,14 @@
--- Each turn explains two notes more; what is left then ends as the whole does.
+-- Before each turn, what is left to explain ends as the whole does, and there is room for it.
 use mathlib.Core.Path.{◌≡◌}
-use Prim.Native.Nat.{◌+◌, ◌*◌, ◌-◌, ◌≤◌}
-use lib.ListN.{length, drop}
-use Rattle.desk_answers.specs.Promise.{Continues, note_room}
+use Prim.Native.Nat.{◌+◌, ◌*◌, ◌≤◌}
+use lib.ListN.{length}
+use Rattle.std.specs.Slice.Iter.{chunks_exact_rest, chunks_exact_size}
+use Rattle.desk_answers.specs.Promise.{Continues, note_numbers, note_room}
 use Rattle.desk_answers.specs.Why.{explanations}
 use Rattle.desk_answers_code.proofs.Explaining.{saying}
 use Rattle.desk_answers_code.proofs.why.explain_all.Given as goal
 
-abbrev pub invariant-loop-i : goal.invariant-loop-i
-invariant-loop-i l = (l.i ≤ l.n) × (l.end ≤ l.at + note_room * l.i) × Continues (saying (explanations (drop l.i l.notes))) l.end l.out (saying (explanations l.notes)) l.at l.initial.out × (length l.out ≡ length l.initial.out)
-
-abbrev pub decreases-loop-i : goal.decreases-loop-i
-decreases-loop-i l = l.n - l.i
+abbrev pub invariant-loop-note : goal.invariant-loop-note
+invariant-loop-note l = (chunks_exact_size l.note-iterator ≡ note_numbers)
+    × (l.end + note_room * length (chunks_exact_rest l.note-iterator) ≤ l.at + note_room * length l.notes)
+    × Continues (saying (explanations (chunks_exact_rest l.note-iterator))) l.end l.out (saying (explanations l.notes)) l.at l.initial.out

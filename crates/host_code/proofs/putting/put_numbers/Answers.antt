@@ -18,7 +18,7 @@ loop-i-preserved c =
     let i = c.loop-i.i in
     let l = length-numbers k i in
     let e : i + 1 ≡ suc i = omega arith in
-    rw (e, numbers_then k i, c.copy.ensures, c.to_be_bytes-number.ensures, c.from.ensures, c.loop-i.invariant, ← low_byte (k + i))
+    rw (e, numbers_then k i, c.lay.ensures, c.to_be_bytes-number.ensures, c.from.ensures, c.loop-i.invariant, ← low_byte (k + i))
     (put_then c.args.room.now 4 (4 + 2 * i) (numbers_of (sectors_from (sector k) i)) (two_bytes (k + i)) (omega arith))
 
 pub returns : goal.returns

@@ -9,5 +9,5 @@ use Rattle.host_code.proofs.putting.put_read.Goals as goal
 pub returns : goal.returns
 returns c =
     let a = flash_address c.args.offset in
-    rw (c.copy-2.ensures, c.copy.ensures, c.head-head.ensures)
+    rw (c.lay-2.ensures, c.lay.ensures, c.head-head.ensures)
     (record { count = refl; room = read_in_parts c.args.room.now a c.args.n ∙ put_front c.args.room.now (read_command a c.args.n) (omega arith) })

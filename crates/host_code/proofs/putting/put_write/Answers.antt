@@ -1,6 +1,5 @@
 -- Head, data and checksum are put one behind the other.
 use Rattle.std.proofs.Common.{arith, ◌≡◌, ◌∙◌, ◌+◌, ◌-◌}
-use Rattle.std.proofs.lemmas.List.{take_all}
 use Rattle.words.specs.Lists.{part}
 use Rattle.words.proofs.Over.{put_front}
 use Rattle.words.proofs.Slices.{length_part}
@@ -16,5 +15,5 @@ returns c =
     let j = length_part c.args.image.now c.args.offset c.args.n (omega arith) in
     let l = length-write a bytes in
     let e : c.args.offset + c.args.n - c.args.offset ≡ c.args.n = omega arith in
-    rw (c.copy-3.ensures, c.copy-2.ensures, c.copy.ensures, c.xor_from.ensures, c.head-head.ensures, e, take_all c.args.n bytes (omega arith))
+    rw (c.lay-3.ensures, c.lay-2.ensures, c.lay.ensures, c.xor-sum.ensures, c.head-head.ensures, e)
     (record { count = omega arith; room = write_in_parts c.args.room.now a c.args.n bytes j ∙ put_front c.args.room.now (write_command a bytes) (omega arith) })

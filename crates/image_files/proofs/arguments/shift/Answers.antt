@@ -1,20 +1,27 @@
 -- By the first character.
-use Rattle.std.proofs.Common.{get_or}
-use borrow.Author.Tests.{eq-eqb, ne_eqb}
+use Rattle.std.proofs.Common.{◌≡◌, None, sym, ◌∙◌, rules}
 use Rattle.words.proofs.Slices.{to_the_end}
 use Rattle.image_files.specs.Arguments.{shift_in}
-use Rattle.image_files.proofs.Decimals.{no_shift}
 use Rattle.image_files.proofs.arguments.shift.Goals as goal
 
-pub returns-then-text-lt1 : goal.returns-then-text-lt1
-returns-then-text-lt1 c = no_shift c.args.text.now c.if-text-lt1.true
-
-pub returns-then-minus : goal.returns-then-minus
+pub returns-in_err-number : goal.returns-in_err-number
 unfolding shift_in
-returns-then-minus c =
-    rw (eq-eqb (get_or c.args.text.now 0 0) 45 c.if-minus.true, ← to_the_end 1 c.args.text.now, ← c.number.ensures)
-    c.backward.ensures
+returns-in_err-number c =
+    let e : c.from_residual.result ≡ None = search rules in
+    rw (sym c.is_negative-minus.ensures.minus ∙ c.if-minus.true, ← to_the_end 1 c.args.text.now, ← c.number.ensures, c.in_err-number.was) e
 
-pub returns : goal.returns
+pub returns-in_err-number-2 : goal.returns-in_err-number-2
 unfolding shift_in
-returns c = rw (ne_eqb (get_or c.args.text.now 0 0) 45 c.if-minus.false, ← c.number-2.ensures) c.forward.ensures
+returns-in_err-number-2 c =
+    let e : c.from_residual-in_err-number-2.result ≡ None = search rules in
+    rw (sym c.is_negative-minus.ensures.minus ∙ c.if-minus.false, ← c.number-else-minus.ensures, c.in_err-number-2.was) e
+
+pub returns-in_ok-number : goal.returns-in_ok-number
+unfolding shift_in
+returns-in_ok-number c =
+    rw (sym c.is_negative-minus.ensures.minus ∙ c.if-minus.true, ← to_the_end 1 c.args.text.now, ← c.number.ensures, c.in_ok-number.was) c.shift_by.ensures
+
+pub returns-in_ok-number-2 : goal.returns-in_ok-number-2
+unfolding shift_in
+returns-in_ok-number-2 c =
+    rw (sym c.is_negative-minus.ensures.minus ∙ c.if-minus.false, ← c.number-else-minus.ensures, c.in_ok-number-2.was) c.shift_by-else-minus.ensures

@@ -6,4 +6,4 @@ use Rattle.image_says.proofs.text.message.Goals as goal
 pub returns-clause-added : goal.returns-clause-added
 unfolding message
 returns-clause-added c =
-    then (then (then c.name_line-named.ensures.added c.add-begun.ensures) c.say-end.ensures.added) c.add.ensures
+    then (then (then (rw c.line_in.ensures at c.name_line-named.ensures.added) c.add-begun.ensures) c.say-end.ensures.added) c.add.ensures
