@@ -47,6 +47,13 @@ are_proper m l = rw (
 pub lengths_fit : {m : Memories} {room : List ℕ} → Fits m room → Lengths m
 lengths_fit f = record { flash = f.flash; sram = f.sram; usd = f.usd }
 
+pub proper_fit : {m : Memories} {room : List ℕ} → Fits m room → T (proper m)
+proper_fit f = are_proper _ (lengths_fit f)
+
+-- others that have their lengths fit, too
+pub fits_again : {m n : Memories} {old new : List ℕ} → Fits m old → T (proper n) → length new ≡ length old → Fits n new
+fits_again {n = n} f t e = let l = lengths n t in record { flash = l.flash; sram = l.sram; usd = l.usd; room = e ∙ f.room }
+
 -- as many bytes as the memories have
 pub all_bytes : (m : Memories) → Lengths m → length (in_bytes m) ≡ memories_bytes
 all_bytes m l =

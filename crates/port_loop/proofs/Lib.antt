@@ -4,3 +4,4 @@ pub mod Windows
 pub mod Fronts
 pub mod Behind
 pub mod Reading
+pub mod Lengths

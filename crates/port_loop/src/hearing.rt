@@ -1,6 +1,6 @@
 // Takes UART bytes in, and says what is to be said to them.
 ghost use Rattle.std.specs.Prelude.{◌≡◌, true, ◌+◌, ◌≤◌, ◌<◌, length, take};
-ghost use Rattle.memories.specs.Lent.{were, are};
+ghost use Rattle.memories.specs.Lent.{had, has, Same};
 ghost use Rattle.uart.specs.Conversation.{uart_room};
 ghost use Rattle.boot.specs.Promise.{state_of};
 ghost use Rattle.port_loop.specs.Port.{Hears};
@@ -8,6 +8,7 @@ ghost use Rattle.port_loop.specs.Turns.{read_bytes, out_bytes};
 
 use crate::st;
 use boot::Session;
+use memories::Lent;
 
 // The session after some bytes, how many they were, and how long what is said to them is.
 #[derive(Clone, Copy)]
@@ -22,9 +23,7 @@ fn hear_front(
     session: Session,
     st: bool,
     bytes: &[u8],
-    flash: &mut [u8],
-    sram: &mut [u8],
-    usd: &mut [u8],
+    lent: &mut Lent<'_>,
     out: &mut [u8],
 ) -> Heard
     requires bytes_nonzero { (0 < length bytes.now) × (length bytes.now ≤ read_bytes) }
@@ -33,10 +32,11 @@ fn hear_front(
     ensures some { 0 < result.count }
     ensures within { result.count ≤ length bytes.now }
     ensures short { result.length ≤ uart_room }
-    ensures heard { Hears st (take result.count bytes.now) (state_of session (were flash sram usd)) out.old
-        result.length out.new (state_of result.session (are flash sram usd)) }
+    ensures heard { Hears st (take result.count bytes.now) (state_of session (had lent)) out.old
+        result.length out.new (state_of result.session (has lent)) }
+    ensures same { Same lent }
 {
-    let front = session.take_front(bytes, flash, sram, usd, out);
+    let front = session.take_front(bytes, lent, out);
     let taken = front.taken;
     let next = taken.session;
     let length = taken.length;
@@ -63,17 +63,16 @@ pub fn hear(
     session: Session,
     st: bool,
     bytes: &[u8],
-    flash: &mut [u8],
-    sram: &mut [u8],
-    usd: &mut [u8],
+    lent: &mut Lent<'_>,
     out: &mut [u8],
 ) -> Heard
     requires bytes_len_bound { length bytes.now ≤ read_bytes }
     requires out_bytes_in_bounds { out_bytes ≤ length out.old }
     ensures within { result.length ≤ length out.old }
     ensures all { result.count ≡ length bytes.now }
-    ensures heard { Hears st bytes.now (state_of session (were flash sram usd)) out.old
-        result.length out.new (state_of result.session (are flash sram usd)) }
+    ensures heard { Hears st bytes.now (state_of session (had lent)) out.old
+        result.length out.new (state_of result.session (has lent)) }
+    ensures same { Same lent }
 {
     let n = bytes.len();
     let mut here = session;
@@ -82,7 +81,7 @@ pub fn hear(
     while i < n {
         let stop = until(st, i, n);
         let part = &mut out[end..end + uart::ROOM];
-        let heard = hear_front(here, st, &bytes[i..stop], flash, sram, usd, part);
+        let heard = hear_front(here, st, &bytes[i..stop], lent, part);
         let next = heard.session;
         here = next;
         end += heard.length;

@@ -5,9 +5,10 @@ pub mod hearing;
 pub mod held;
 pub mod st;
 
-ghost use Rattle.std.specs.Prelude.{◌≡◌, true, ◌≤◌, length, OnOk};
+ghost use Rattle.std.specs.Prelude.{◌≡◌, true, ◌≤◌, T, length, OnOk};
 ghost use Rattle.words.specs.Texts.{characters};
-ghost use Rattle.memories.specs.Lent.{held, were, are};
+ghost use Rattle.memories.specs.Lent.{holds, had, has, Same};
+ghost use Rattle.memories.specs.Memories.{proper};
 ghost use Rattle.keeping.specs.Kept.{Fits, Kept, Begins};
 ghost use Rattle.boot.specs.Promise.{state_of};
 ghost use Rattle.port_loop.specs.Turns.{out_bytes, sitting, Turns, HasHeard, LeftBy};
@@ -15,8 +16,10 @@ ghost use Rattle.port_loop.specs.Turns.{out_bytes, sitting, Turns, HasHeard, Lef
 use boot::Session;
 use files::system::System;
 use hearing::hear;
+use keeping::room::MEMORIES_BYTES;
 use keeping::turns::MOST;
 use keeping::{Untold, begin, fresh, tell};
+use memories::Lent;
 use std::io::{Read, Write};
 
 // How many bytes are read at most at once.
@@ -33,6 +36,7 @@ pub fn asks_st(argument: &[u8]) -> bool
 }
 
 // Room for the replies, of which only its length counts.
+// Kept: of words::zeros at this length the check of `run` unfolds a million zeros, and does not end (c).
 fn room() -> [u8; OUT_BYTES]
     ensures { out_bytes ≡ length result }
 {
@@ -47,25 +51,25 @@ fn turn<R: System, F: Read, W: Write>(
     name: &[u8],
     from: &mut F,
     to: &mut W,
-    flash: &mut [u8],
-    sram: &mut [u8],
-    usd: &mut [u8],
+    lent: &mut Lent<'_>,
     out: &mut [u8],
     kept: &mut [u8],
 ) -> Result<bool, Untold>
     requires out_bytes_in_bounds { out_bytes ≤ length out.old }
-    requires fits { Fits (held flash sram usd) kept.old }
-    requires kept_2 { Kept name.now (held flash sram usd) kept.old }
-    ensures heard { Turns st (sitting (state_of session.old (were flash sram usd)) out.old)
-        (sitting (state_of session.new (are flash sram usd)) out.new) result }
-    ensures kept { OnOk result (Kept name.now (are flash sram usd) kept.new) }
+    requires fits { Fits (holds lent.old) kept.old }
+    requires kept_2 { Kept name.now (holds lent.old) kept.old }
+    ensures heard { Turns st (sitting (state_of session.old (had lent)) out.old)
+        (sitting (state_of session.new (has lent)) out.new) result }
+    ensures lengths { T (proper (has lent)) }
+    ensures kept { OnOk result (Kept name.now (has lent) kept.new) }
+    ensures same { Same lent }
 {
     let mut input = [0u8; READ_BYTES];
     let n = files::read_once(from, &mut input);
-    let heard = hear(*session, st, &input[..n], flash, sram, usd, out);
+    let heard = hear(*session, st, &input[..n], lent, out);
     *session = heard.session;
     let end = heard.length;
-    tell(rt, name, flash, sram, usd, kept, to, &out[..end])?;
+    tell(rt, name, lent, kept, to, &out[..end])?;
     Ok(0 < n)
 }
 
@@ -77,21 +81,20 @@ fn read_on<R: System, F: Read, W: Write>(
     name: &[u8],
     from: &mut F,
     to: &mut W,
-    flash: &mut [u8],
-    sram: &mut [u8],
-    usd: &mut [u8],
+    lent: &mut Lent<'_>,
     out: &mut [u8],
     kept: &mut [u8],
 ) -> Result<(), Untold>
     requires out_bytes_in_bounds { out_bytes ≤ length out.old }
-    requires fits { Fits (held flash sram usd) kept.old }
-    requires kept_2 { Kept name.now (held flash sram usd) kept.old }
-    ensures heard { HasHeard st (sitting (state_of session.old (were flash sram usd)) out.old)
-        (sitting (state_of session.new (are flash sram usd)) out.new) }
-    ensures kept { OnOk result (Kept name.now (are flash sram usd) kept.new) }
+    requires fits { Fits (holds lent.old) kept.old }
+    requires kept_2 { Kept name.now (holds lent.old) kept.old }
+    ensures heard { HasHeard st (sitting (state_of session.old (had lent)) out.old)
+        (sitting (state_of session.new (has lent)) out.new) }
+    ensures kept { OnOk result (Kept name.now (has lent) kept.new) }
+    ensures same { Same lent }
 {
     for _ in 0..MOST {
-        let more = turn(rt, session, st, name, from, to, flash, sram, usd, out, kept)?;
+        let more = turn(rt, session, st, name, from, to, lent, out, kept)?;
         if !more {
             return Ok(());
         }
@@ -106,34 +109,21 @@ fn sit<R: System, F: Read, W: Write>(
     name: &[u8],
     from: &mut F,
     to: &mut W,
-    flash: &mut [u8],
-    sram: &mut [u8],
-    usd: &mut [u8],
+    lent: &mut Lent<'_>,
     out: &mut [u8],
     kept: &mut [u8],
 ) -> (Session, Result<(), Untold>)
     requires out_bytes_in_bounds { out_bytes ≤ length out.old }
-    requires begins { Begins name.now (held flash sram usd) }
-    requires fits { Fits (held flash sram usd) kept.old }
-    requires kept_2 { Kept name.now (held flash sram usd) kept.old }
-    ensures left { LeftBy st (were flash sram usd) out.old
-        (sitting (state_of result.0 (are flash sram usd)) out.new) }
-    ensures kept { OnOk result.1 (Kept name.now (are flash sram usd) kept.new) }
+    requires begins { Begins name.now (holds lent.old) }
+    requires fits { Fits (holds lent.old) kept.old }
+    requires kept_2 { Kept name.now (holds lent.old) kept.old }
+    ensures left { LeftBy st (had lent) out.old
+        (sitting (state_of result.0 (has lent)) out.new) }
+    ensures kept { OnOk result.1 (Kept name.now (has lent) kept.new) }
+    ensures same { Same lent }
 {
     let mut session = Session::power_on();
-    let told = read_on(
-        rt,
-        &mut session,
-        st,
-        name,
-        from,
-        to,
-        flash,
-        sram,
-        usd,
-        out,
-        kept,
-    );
+    let told = read_on(rt, &mut session, st, name, from, to, lent, out, kept);
     (session, told)
 }
 
@@ -143,13 +133,15 @@ pub fn run<R: System, F: Read, W: Write>(rt: &R, st: bool, name: &[u8], from: &m
     let mut flash = fresh::flash();
     let mut sram = fresh::sram();
     let mut usd = fresh::usd();
-    let mut kept = keeping::room::empty();
-    let begun = begin(rt, name, &mut flash, &mut sram, &mut usd, &mut kept);
-    if begun.is_err() {
+    let mut lent = Lent {
+        flash: &mut flash,
+        sram: &mut sram,
+        usd: &mut usd,
+    };
+    let mut kept = words::zeros::<MEMORIES_BYTES>();
+    if begin(rt, name, &mut lent, &mut kept).is_err() {
         return; // why is said
     }
     let mut out = room();
-    let _ = sit(
-        rt, st, name, from, to, &mut flash, &mut sram, &mut usd, &mut out, &mut kept,
-    );
+    let _ = sit(rt, st, name, from, to, &mut lent, &mut out, &mut kept);
 }
