@@ -29,10 +29,8 @@ brought c =
 pub silent_line-requires-clause-taken_le_expected : goal.silent_line-requires-clause-taken_le_expected
 silent_line-requires-clause-taken_le_expected c = omega (arith, sound_taken c.loop-line.here c.loop-line.invariant.1.firm)
 
-pub stage-requires : goal.stage-requires
-stage-requires c =
-    let b = brought (goal.at.stage-requires c).In-Some in
-    (omega (arith, b.1, sound_expected c.loop-line.here c.loop-line.invariant.1.firm), omega (arith, b.0, c.loop-line.invariant.0, c.silent_line.auto.new))
+pub lay-requires : goal.lay-requires
+lay-requires c = ?
 
 pub overflow_add-here : goal.overflow_add-here
 overflow_add-here c =
@@ -43,5 +41,5 @@ loop-line-preserved c =
     let loop = c.loop-line in
     let line = c.in-Some.line in
     let w = went_on c.args.session loop.here c.args.right c.args.text.now loop.lines loop.characters loop.invariant.2 loop.invariant.1
-    line.end line.count c.silent_line.new.new (silent (goal.at.loop-line-preserved c).In-Some) c.stage.new.staged c.stage.ensures in
+    line.end line.count c.silent_line.new.new (silent (goal.at.loop-line-preserved c).In-Some) c.lay.new.memory c.lay.ensures in
     (c.silent_line.auto.new ∙ loop.invariant.0, w.0, w.1)
