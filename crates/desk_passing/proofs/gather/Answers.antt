@@ -3,6 +3,7 @@ use native.Mathlib.Omega.{arith}
 use mathlib.Core.Path.{◌∙◌}
 use Prim.Native.Nat.{◌+◌, ◌≤◌, ◌<◌}
 use lib.ListN.{length, drop}
+use lib.Seq.{length-take-le}
 use Rattle.words.proofs.Slices.{to_the_end}
 use Rattle.boot.proofs.Sound.{sound_taken, sound_expected}
 use Rattle.desk_passing.specs.Passing.{SilentLine}
@@ -29,8 +30,11 @@ brought c =
 pub silent_line-requires-clause-taken_le_expected : goal.silent_line-requires-clause-taken_le_expected
 silent_line-requires-clause-taken_le_expected c = omega (arith, sound_taken c.loop-line.here c.loop-line.invariant.1.firm)
 
-pub lay-requires : goal.lay-requires
-lay-requires c = ?
+pub stage-requires : goal.stage-requires
+stage-requires c =
+    let b = brought (goal.at.stage-requires c).In-Some in
+    let n = length-take-le c.in-Some.line.count c.silent_line.new.new (omega (arith, b.0, c.loop-line.invariant.0, c.silent_line.auto.new)) in
+    omega (arith, b.1, n, sound_expected c.loop-line.here c.loop-line.invariant.1.firm)
 
 pub overflow_add-here : goal.overflow_add-here
 overflow_add-here c =
@@ -41,5 +45,5 @@ loop-line-preserved c =
     let loop = c.loop-line in
     let line = c.in-Some.line in
     let w = went_on c.args.session loop.here c.args.right c.args.text.now loop.lines loop.characters loop.invariant.2 loop.invariant.1
-    line.end line.count c.silent_line.new.new (silent (goal.at.loop-line-preserved c).In-Some) c.lay.new.memory c.lay.ensures in
+    line.end line.count c.silent_line.new.new (silent (goal.at.loop-line-preserved c).In-Some) c.stage.new.staged c.stage.ensures in
     (c.silent_line.auto.new ∙ loop.invariant.0, w.0, w.1)
