@@ -59,13 +59,7 @@ fn until(st: bool, i: usize, n: usize) -> usize
 }
 
 // Hears bytes, and says to them what is to be said, or in ST's dialect.
-pub fn hear(
-    session: Session,
-    st: bool,
-    bytes: &[u8],
-    lent: &mut Lent<'_>,
-    out: &mut [u8],
-) -> Heard
+pub fn hear(session: Session, st: bool, bytes: &[u8], lent: &mut Lent<'_>, out: &mut [u8]) -> Heard
     requires bytes_len_bound { length bytes.now ≤ read_bytes }
     requires out_bytes_in_bounds { out_bytes ≤ length out.old }
     ensures within { result.length ≤ length out.old }
