@@ -139,9 +139,15 @@ pub fn run<R: System, F: Read, W: Write>(rt: &R, st: bool, name: &[u8], from: &m
         usd: &mut usd,
     };
     let mut kept = words::zeros::<MEMORIES_BYTES>();
-    if begin(rt, name, &mut lent, &mut kept).is_err() {
+    let begun = begin(rt, name, &mut lent, &mut kept);
+    if begun.is_err() {
         return; // why is said
     }
     let mut out = room();
+    let mut lent = Lent {
+        flash: &mut flash,
+        sram: &mut sram,
+        usd: &mut usd,
+    };
     let _ = sit(rt, st, name, from, to, &mut lent, &mut out, &mut kept);
 }
