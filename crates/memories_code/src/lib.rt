@@ -117,6 +117,7 @@ fn lock(usd: &mut [u8])
 }
 
 // Carries out a change that can be.
+#[tactic(auto, using(crate::proofs::Fits::write_fits, crate::proofs::Fits::erase_fits, crate::proofs::Fits::protect_fits))]
 pub fn carry_out(change: Change, staged: &[u8; STAGED], lent: &mut Lent<'_>)
     requires { T (proper (holds lent.old)) × T (fits change staged.now) }
     ensures left { has lent ≡ effect change staged.now (had lent) }
