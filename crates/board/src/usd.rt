@@ -66,6 +66,7 @@ impl View {
         requires { first.0 + n ≤ sectors.count }
         ensures { result ≡ any (write_protected self) (sectors_from first n) }
     {
+        // Kept: of `(first.0..end).any(..)` the goal stayed open, since the library gives no list of a range's items.
         for k in first.0..first.0 + n as u16 {
             if self.write_protected(Sector(k)) {
                 return true;

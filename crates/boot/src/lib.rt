@@ -15,17 +15,18 @@ ghost use Rattle.boot.specs.Causes.{cause_no};
 // The number of a call that is accepted.
 pub const ACCEPTED: u8 = 0;
 
-// Why a call is refused.
+// Why a call is refused, with document 01's numbers.
 #[derive(Clone, Copy)]
 pub enum Cause {
-    WrongMemory,
-    ShortReply,
-    BadFrame,
-    UnsoundSession,
-    BoardRunning,
+    WrongMemory = 1,
+    ShortReply = 2,
+    BadFrame = 3,
+    UnsoundSession = 4,
+    BoardRunning = 5,
 }
 
 // What the board knows of its host between two inputs.
+// Kept: carrier and step as numbers, since any session value is taken (document 01), also one whose numbers are those of no carrier and of no step.
 #[derive(Clone, Copy)]
 pub struct Session {
     pub carrier: u8,
@@ -53,12 +54,6 @@ impl Cause {
     pub fn number(self) -> u8
         ensures { result ≡ cause_no (Err self) }
     {
-        match self {
-            Cause::WrongMemory => 1,
-            Cause::ShortReply => 2,
-            Cause::BadFrame => 3,
-            Cause::UnsoundSession => 4,
-            Cause::BoardRunning => 5,
-        }
+        self as u8
     }
 }

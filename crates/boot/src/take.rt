@@ -1,4 +1,5 @@
 // The two calls that take input: refused for the first cause that holds, or decided, said and carried out.
+// Kept: two calls, since one over both would take what gathers, decides and says as three closures, whose contracts are what its body says.
 ghost use Rattle.std.specs.Prelude.{◌≡◌, true, T, leb, length};
 ghost use Rattle.memories.specs.Lent.{holds, had, has, Same};
 ghost use Rattle.memories.specs.Memories.{proper};

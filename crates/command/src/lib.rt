@@ -83,6 +83,7 @@ pub enum Next {
     // Idle at a new speed.
     SetSpeed(u8),
     // A step by its number and what it expects; the address is kept.
+    // Kept: no enum, since the steps are those of the carriers' crates, which stand above this one.
     Enter(u8, usize),
     // The same, with a new address.
     EnterAt(u8, usize, u32),

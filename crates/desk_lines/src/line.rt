@@ -29,6 +29,7 @@ pub fn is_field(field: &[u8]) -> bool
 pub fn are_fields(rest: &[u8]) -> bool
     ensures { result ≡ are_fields rest.now }
 {
+    // Kept: of `chunks_exact(FIELD).all(is_field)` it stayed open that the chunks' test is the definition's.
     for field in rest.chunks_exact(FIELD) {
         let good = is_field(field);
         if !good {

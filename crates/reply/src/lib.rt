@@ -41,6 +41,7 @@ const VERSION: &[u8] = &[
 ];
 
 // What 0x02 tells, between two ACKs.
+// Kept: the product by its bytes and not by `to_be_bytes`, since a constant's value calls no function.
 const DEVICE: &[u8] = &[
     ACK,
     DEVICE_TOLD,

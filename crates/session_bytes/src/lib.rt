@@ -11,7 +11,7 @@ ghost use Rattle.session_bytes.specs.Promise.{HandsOn};
 use boot::{ACCEPTED, Session, Taken};
 
 // The number of a call that is refused for its session.
-pub const UNSOUND_SESSION: u8 = 4;
+pub const UNSOUND_SESSION: u8 = boot::Cause::UnsoundSession as u8;
 
 // How many bytes a session is lent in.
 pub const LENGTH: usize = 280;

@@ -39,7 +39,6 @@ pub fn checks_numbered(bytes: &[u8], x: usize) -> bool
 pub fn special_checks(address: u32, byte: u8) -> bool
     ensures { result ≡ checks (two_bytes address) byte }
 {
-    let high = (address / 256 % 256) as u8;
-    let low = (address % 256) as u8;
+    let [_, _, high, low] = address.to_be_bytes();
     byte == high ^ low
 }
