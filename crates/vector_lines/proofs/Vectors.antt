@@ -1,12 +1,12 @@
 -- Laws of bytes by seed and stride, and of bytes put as far as a memory reaches.
 use mathlib.Core.Path.{◌≡◌, refl, ap, sym, ◌∙◌}
 use mathlib.Core.List.{List, [], ◌∷◌, ◌++◌}
-use Prim.Native.Nat.{ℕ, zero, suc, ◌+◌, ◌-◌, ◌≤◌, ◌<◌, ◌%◌, min}
+use Prim.Native.Nat.{ℕ, zero, suc, ◌+◌, ◌≤◌, ◌<◌, ◌%◌, min}
 use native.Mathlib.Nat.{le_of_suc-le-suc, not-suc-le-zero}
 use native.Mathlib.Omega.{arith}
 use lib.ListN.{length, set, take, length-append}
-use Rattle.words.specs.Over.{newer, put}
-use Rattle.words.proofs.Over.{put_all, put_one, put_then, over_none}
+use Rattle.words.specs.Over.{put}
+use Rattle.words.proofs.Over.{put_all, put_one, put_then}
 use Rattle.vector_lines.specs.Vectors.{filled}
 
 -- as many as are asked for

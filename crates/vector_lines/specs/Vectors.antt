@@ -1,11 +1,15 @@
 -- What the bytes of a vector say: docs/VECTORS.md, "The line of a vector". Assumes nothing.
-use Rattle.std.specs.Prelude.{ℕ, zero, suc, ◌≡◌, ◌≢◌, ◌+◌, ◌%◌, min, List, [], ◌∷◌, ◌++◌, get_or, take, drop}
+use Rattle.std.specs.Prelude.{ℕ, zero, suc, ◌≡◌, ◌≢◌, ◌+◌, ◌*◌, ◌%◌, min, List, [], ◌∷◌, ◌++◌, length, get_or, take, drop, Option, T}
+use Rattle.std.specs.Io.KnownBytes.{Consumes}
 use Rattle.words.specs.Bytes.{number}
+use Rattle.words.specs.Hex.{field_characters}
 use Rattle.words.specs.Lists.{part}
 use Rattle.words.specs.Over.{put}
 use Rattle.numbers.specs.Numbers.{short_bytes}
 use Rattle.memories.specs.Effects.{staged_bytes}
 use Rattle.session_bytes.specs.Sessions.{staged_place, session_in}
+use Rattle.desk_lines.specs.Lines.{are_fields, fields}
+use Rattle.vector_lines.specs.Sizes.{vector_bytes}
 use Rattle.boot.specs.declared.Session.{Session}
 use Rattle.vector_lines.specs.declared.vector.Input.{Input}
 use Rattle.vector_lines.specs.declared.vector.Input.TheVariants.{Byte, Frame}
@@ -54,3 +58,16 @@ letter_b = 0x42
 abbrev pub Takes : ℕ → List ℕ → Input → Type 0
 Takes letter bytes (Byte b) = (letter ≡ letter_b) × (b ≡ get_or bytes 69 0)
 Takes letter bytes (Frame f) = (letter ≢ letter_b) × (f.now ≡ take (min (get_or bytes 70 0) 12) (drop 71 bytes))
+
+-- how many characters write a vector's bytes, and its line with the LF: 249 and 251
+abbrev pub written_characters : ℕ
+written_characters = vector_bytes * field_characters
+
+abbrev pub line_characters : ℕ
+line_characters = 1 + written_characters + 1
+
+-- a line that was read, after which the later bytes are left, writes a vector: its letter, then its bytes in hex
+abbrev pub Written : Option (List ℕ) → Option (List ℕ) → ℕ → List ℕ → Type 0
+Written before later letter bytes =
+    (line : List ℕ) × Consumes before later line × (length line ≡ line_characters) × (letter ≡ get_or line 0 0)
+    × T (are_fields (part 1 written_characters line)) × (bytes ≡ fields (part 1 written_characters line))

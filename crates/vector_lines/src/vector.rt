@@ -1,9 +1,9 @@
 // Reads a vector (docs/VECTORS.md).
-ghost use Rattle.std.specs.Prelude.{◌≡◌, ◌+◌, ◌≤◌, length, get_or};
+ghost use Rattle.std.specs.Prelude.{◌≡◌, ◌+◌, ◌≤◌, length, get_or, IfSome};
 ghost use Rattle.numbers.specs.Numbers.{short_bytes};
 ghost use Rattle.words.specs.Over.{put};
 ghost use Rattle.vector_lines.specs.Sizes.{vector_bytes};
-ghost use Rattle.vector_lines.specs.Vectors.{filled, extent, flash_in, sram_in, usd_in, buffer_in, session_said, Takes};
+ghost use Rattle.vector_lines.specs.Vectors.{filled, extent, flash_in, sram_in, usd_in, buffer_in, session_said, Takes, Written};
 
 use crate::FIELDS;
 use board::Board;
@@ -90,7 +90,9 @@ fn lay(memory: &mut [u8], at: usize, bytes: &[u8])
 
 impl Vector {
     // The vector that the next line writes.
-    pub fn read<F: Read>(from: &mut F) -> Option<Vector> {
+    pub fn read<F: Read>(from: &mut F) -> Option<Vector>
+        ensures { IfSome result (λ v. Written (F.remaining from.old) (F.remaining from.new) v.letter v.bytes) }
+    {
         let mut text = [0u8; LINE];
         from.read_exact(&mut text).ok()?;
         let fields = &text[FIELDS..FIELDS_END];

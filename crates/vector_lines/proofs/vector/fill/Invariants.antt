@@ -1,6 +1,6 @@
 -- Before each turn what is left to store ends as the whole does.
 use mathlib.Core.Path.{◌≡◌}
-use Prim.Native.Nat.{◌+◌, ◌-◌}
+use Prim.Native.Nat.{◌-◌}
 use lib.ListN.{length}
 use Rattle.words.specs.Over.{put}
 use Rattle.vector_lines.specs.Vectors.{filled}
