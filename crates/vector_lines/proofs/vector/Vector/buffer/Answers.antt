@@ -9,4 +9,4 @@ use Rattle.vector_lines.proofs.vector.Vector.buffer.Goals as goal
 pub returns-clause-fits : goal.returns-clause-fits
 returns-clause-fits c =
     let bytes = c.args.self.now.bytes in
-    rw c.memory.ensures (filled_fits (get_or bytes 68 0) 0 (number (part 64 short_bytes bytes)) (length c.args.room.now))
+    rw c.memory.ensures (filled_fits (get_or bytes 68 0) _ (number (part 64 short_bytes bytes)) (length c.args.room.now))
