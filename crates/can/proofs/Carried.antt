@@ -1,18 +1,11 @@
 -- What a command frame's data write behind their first bytes.
-use mathlib.Core.Path.{◌≡◌, refl, ap, sym, ◌∙◌}
-use mathlib.Core.Bool.{Bool, true}
+use mathlib.Core.Path.{◌≡◌, ap, sym, ◌∙◌}
 use mathlib.Core.List.{List, [], ◌∷◌}
-use Prim.Native.Nat.{ℕ, zero, suc, ◌<◌}
-use native.Mathlib.Nat.{not-suc-le-zero, le_of_suc-le-suc}
+use Prim.Native.Nat.{ℕ, suc}
 use native.Mathlib.Omega.{arith}
 use lib.ListN.{length, get_or, drop}
 use lib.Seq.{drop-cons, drop-length}
-use borrow.Author.Tests.{ne_eqb}
-use Rattle.std.specs.Prelude.{Option, Some, None}
 use Rattle.words.specs.Bytes.{number}
-use Rattle.command.specs.Commands.{can_commands, look_up}
-use Rattle.command.specs.declared.Command.{Command}
-use Rattle.can.specs.Conversation.{dlc_fits, dlc_right}
 
 -- nothing stands behind the last byte
 beyond : (n : ℕ) (l : List ℕ) → length l ≡ n → drop n l ≡ []

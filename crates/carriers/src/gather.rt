@@ -6,12 +6,12 @@ ghost use Rattle.command.specs.Progress.{progress_at, fitting, staged_with};
 
 use memories::STAGED;
 
-// Puts the first n new bytes among the staged ones, from an index on.
-pub fn stage(staged: &mut [u8; STAGED], at: usize, new: &[u8], n: usize)
-    requires { (at + n ≤ staged_bytes) × (n ≤ length new.now) }
-    ensures { staged.new ≡ put staged.old at (take n new.now) }
+// Puts new bytes among the staged ones, from an index on.
+pub fn stage(staged: &mut [u8; STAGED], at: usize, new: &[u8])
+    requires { at + length new.now ≤ staged_bytes }
+    ensures { staged.new ≡ put staged.old at new.now }
 {
-    words::lay(staged, at, &new[..n]);
+    words::lay(staged, at, new);
 }
 
 // Stages new bytes as far as a step expects them, whatever its address, and tells how many it has then taken.

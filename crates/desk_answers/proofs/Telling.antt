@@ -22,14 +22,12 @@ use Rattle.boot.specs.Calls.{State, powered, Input, Power, Byte, Framed, command
 use Rattle.boot.specs.Promise.{Given, Left, left, given_byte, state_of, outcome, Took}
 use Rattle.boot.specs.declared.Session.{Session}
 use Rattle.boot.specs.declared.Taken.{Taken}
-use Rattle.words.specs.Hex.{space}
 use Rattle.desk_lines.specs.Lines.{line_feed, most_characters, kind_of}
-use Rattle.desk_print.specs.Digits.{decimal}
 use Rattle.desk_answers.specs.Told.{Told, quiet, ◌then◌}
 use Rattle.desk_print.specs.Adds.{Adds}
 use Rattle.desk_print.specs.Prints.{spelled}
-use Rattle.desk_answers.specs.Answers.{answered, not_understood, desk_room, spelled_for, Teller, made, makes, reply_of, tells, why_of, notes}
-use Rattle.desk_answers.specs.Answers.{calls_of, explained, obeyed, notice, answer_by}
+use Rattle.desk_answers.specs.Answers.{answered, desk_room, spelled_for, Teller, made, makes, reply_of, tells, why_of, notes}
+use Rattle.desk_answers.specs.Answers.{calls_of, explained, obeyed, answer_by}
 use Rattle.desk_answers.specs.Why.{note_of}
 use Rattle.desk_answers.specs.Promise.{Tells, Continues}
 use Rattle.desk_lines.specs.declared.Kind.{Kind}

@@ -74,7 +74,7 @@ pub fn gather(session: Session, text: &[u8], right: bool) -> Gathered
         &mut new,
     ) {
         let at = here.taken;
-        carriers::gather::stage(&mut here.staged, at, &new, line.count);
+        carriers::gather::stage(&mut here.staged, at, &new[..line.count]);
         here.taken = at + line.count;
         lines += 1;
         characters += line.end + 1;

@@ -1,21 +1,13 @@
 -- Decimal digits, and how large the number that they write becomes.
-use mathlib.Core.Path.{◌≡◌, refl}
-use mathlib.Core.Bool.{Bool, true, false, cond}
 use mathlib.Core.List.{List, [], ◌∷◌}
-use Prim.Native.Nat.{ℕ, zero, suc, ◌+◌, ◌*◌, ◌-◌, ◌≤◌, ◌<◌}
-use native.Mathlib.Numerals.{add-one}
+use Prim.Native.Nat.{ℕ, zero, suc, ◌*◌, ◌≤◌, ◌<◌}
 use native.Mathlib.Omega.{arith}
-use lib.Dec.{T, leb, ltb}
-use lib.IntN.{pos, negsuc, ◌-ℤ◌}
-use mir.Syntax.{w16, w64}
-use mir.Val.{SFits, of_z, to_z}
-use mir.ValLaws.{to_z-of_z, to_z_pos}
-use lib.ListN.{length, get_or, drop}
-use lib.Seq.{drop-cons, drop-length}
+use lib.Dec.{T, leb}
+use lib.ListN.{length, get_or}
 use borrow.Author.Tests.{leb-true}
 use Rattle.words.specs.Lists.{all}
 use Rattle.words.proofs.Tests.{both_left, both_right, holds_true}
-use Rattle.image_files.specs.Arguments.{is_decimal, value_from}
+use Rattle.image_files.specs.Arguments.{is_decimal}
 
 -- each of several digits is one
 digit_at : (l : List ℕ) (i : ℕ) → T (all is_decimal l) → i < length l → T (is_decimal (get_or l i 0))

@@ -10,28 +10,35 @@ use files::system::System;
 // How many characters an S-record file has at most.
 pub const TEXT: usize = 2097152;
 
+// The bytes of a room for an image, of one for a text, and of one for what is said.
+const IMAGE_ROOM: usize = Board::FLASH_BYTES + 1;
+
+const TEXT_ROOM: usize = TEXT + 1;
+
+const SAID_ROOM: usize = files::NAME + image_says::ROOM;
+
 // The byte that erased flash holds.
 const ERASED: u8 = 0xFF;
 
 // Room for an image, erased, and a byte more.
-pub fn erased() -> [u8; Board::FLASH_BYTES + 1]
-    ensures { 32769 ≡ length result }
+pub fn erased() -> [u8; IMAGE_ROOM]
+    ensures { IMAGE_ROOM ≡ length result }
 {
-    [ERASED; Board::FLASH_BYTES + 1]
+    [ERASED; IMAGE_ROOM]
 }
 
 // Room for a text, and a character more.
-pub fn text_room() -> [u8; TEXT + 1]
-    ensures { 2097153 ≡ length result }
+pub fn text_room() -> [u8; TEXT_ROOM]
+    ensures { TEXT_ROOM ≡ length result }
 {
-    [0; TEXT + 1]
+    words::zeros()
 }
 
 // Room for what is said.
-pub fn said_room() -> [u8; files::NAME + image_says::ROOM]
-    ensures { 4256 ≡ length result }
+pub fn said_room() -> [u8; SAID_ROOM]
+    ensures { SAID_ROOM ≡ length result }
 {
-    [0; files::NAME + image_says::ROOM]
+    words::zeros()
 }
 
 // Says that an S-record file is too long.

@@ -1,10 +1,9 @@
 // Erase: what its selector asks for, and whether the listed sectors, or all of flash, may be erased.
-ghost use Rattle.std.specs.Prelude.{◌≡◌, ◌≤◌, length, take};
+ghost use Rattle.std.specs.Prelude.{◌≡◌, ◌≤◌, ◌%◌, length};
 ghost use Rattle.std.specs.List.{list_all, list_any};
-ghost use Rattle.std.specs.Simd.{first_chunks};
 ghost use Rattle.words.specs.Bytes.{number};
 ghost use Rattle.words.specs.Lists.{any, all};
-ghost use Rattle.board.specs.Quantities.{sector, is_sector, selector_bytes, numbers_bytes, first_numbered};
+ghost use Rattle.board.specs.Quantities.{sector, is_sector, selector_bytes, numbers_bytes, numbered};
 ghost use Rattle.board.specs.View.{write_protected};
 ghost use Rattle.rules.specs.Rules.{selector_of, erase_verdict, erasing, erase_all_verdict};
 
@@ -46,14 +45,6 @@ fn numbered(bytes: &[u8; Sector::NUMBER_BYTES]) -> Sector
     Sector(words::number2(bytes[0], bytes[1]))
 }
 
-// The first x two-byte numbers that are staged.
-fn numbers(staged: &[u8], x: usize) -> &[[u8; Sector::NUMBER_BYTES]]
-    requires { numbers_bytes x ≤ length staged.now }
-    ensures { result.now ≡ first_chunks selector_bytes x (take (numbers_bytes x) staged.now) }
-{
-    staged[..Sector::NUMBER_BYTES * x].as_chunks().0
-}
-
 // Whether some two-byte numbers are all those of sectors of the board.
 fn all_exist(numbers: &[[u8; Sector::NUMBER_BYTES]]) -> bool
     ensures { result ≡ list_all (λ n. is_sector (sector (number n))) numbers.now }
@@ -70,33 +61,33 @@ fn any_protected(view: View, numbers: &[[u8; Sector::NUMBER_BYTES]]) -> bool
         .any(|bytes| view.write_protected(numbered(bytes)))
 }
 
-// Whether the x staged two-byte numbers are all sectors of the board.
-fn all_numbered(staged: &[u8], x: usize) -> bool
-    requires { numbers_bytes x ≤ length staged.now }
-    ensures { result ≡ all is_sector (first_numbered x staged.now) }
+// Whether the bytes of two-byte numbers name sectors of the board alone.
+fn all_numbered(bytes: &[u8]) -> bool
+    requires { length bytes.now % selector_bytes ≡ 0 }
+    ensures { result ≡ all is_sector (numbered bytes.now) }
 {
-    all_exist(numbers(staged, x))
+    all_exist(bytes.as_chunks().0)
 }
 
-// Whether one of the x staged two-byte numbers names a write-protected sector.
-fn any_numbered_protected(view: View, staged: &[u8], x: usize) -> bool
-    requires { numbers_bytes x ≤ length staged.now }
-    ensures { result ≡ any (write_protected view) (first_numbered x staged.now) }
+// Whether the bytes of two-byte numbers name a write-protected sector.
+fn any_numbered_protected(view: View, bytes: &[u8]) -> bool
+    requires { length bytes.now % selector_bytes ≡ 0 }
+    ensures { result ≡ any (write_protected view) (numbered bytes.now) }
 {
-    any_protected(view, numbers(staged, x))
+    any_protected(view, bytes.as_chunks().0)
 }
 
-// Whether the x sectors whose numbers are staged may be erased.
+// Whether the sectors that the bytes of two-byte numbers name may be erased.
 #[tactic(auto, unfolding(rules::specs::Rules::erase_verdict))]
-fn erase_verdict(view: View, staged: &[u8], x: usize) -> Result<(), Why>
-    requires { numbers_bytes x ≤ length staged.now }
-    ensures { result ≡ erase_verdict view (first_numbered x staged.now) }
+fn erase_verdict(view: View, bytes: &[u8]) -> Result<(), Why>
+    requires { length bytes.now % selector_bytes ≡ 0 }
+    ensures { result ≡ erase_verdict view (numbered bytes.now) }
 {
-    let sectors = all_numbered(staged, x);
+    let sectors = all_numbered(bytes);
     if !sectors {
         return Err(Why::BadSector);
     }
-    let forbidden = any_numbered_protected(view, staged, x);
+    let forbidden = any_numbered_protected(view, bytes);
     if forbidden {
         return Err(Why::WriteProtected);
     }
@@ -104,13 +95,14 @@ fn erase_verdict(view: View, staged: &[u8], x: usize) -> Result<(), Why>
 }
 
 // An erase of the x sectors whose numbers are staged, or of none.
+// Kept: x beside the staged bytes (d): `Change::EraseSectors(x)` names it, and `&staged[..2 * x]` would have to be halved again.
 #[tactic(auto, unfolding(rules::specs::Rules::erasing))]
 pub fn erase(view: View, staged: &[u8], x: usize) -> Decision
     requires { numbers_bytes x ≤ length staged.now }
     ensures { result ≡ erasing view staged.now x }
 {
     command::judged(
-        erase_verdict(view, staged, x),
+        erase_verdict(view, &staged[..Sector::NUMBER_BYTES * x]),
         command::alter(FixedReply::Ack, Change::EraseSectors(x), Next::GoIdle),
     )
 }

@@ -2,7 +2,7 @@
 ghost use Rattle.std.specs.Prelude.{◌≡◌, ◌≤◌, length};
 ghost use Rattle.std.specs.List.{list_all};
 ghost use Rattle.words.specs.Lists.{all};
-ghost use Rattle.board.specs.Quantities.{sector, is_sector, first_indexed};
+ghost use Rattle.board.specs.Quantities.{sector, is_sector, indexed};
 ghost use Rattle.rules.specs.Rules.{protecting};
 
 use board::Sector;
@@ -19,21 +19,21 @@ fn all_exist(indexes: &[u8]) -> bool
         .all(|index| Sector(u16::from(*index)).exists())
 }
 
-// Whether the x staged indexes are all sectors of the board.
-fn all_indexed(staged: &[u8], x: usize) -> bool
-    requires { x ≤ length staged.now }
-    ensures { result ≡ all is_sector (first_indexed x staged.now) }
+// Whether some bytes are indexes of sectors of the board alone.
+fn all_indexed(indexes: &[u8]) -> bool
+    ensures { result ≡ all is_sector (indexed indexes.now) }
 {
-    all_exist(&staged[..x])
+    all_exist(indexes)
 }
 
 // Protection of the x sectors whose indexes are staged alone, or a refusal.
+// Kept: x beside the staged bytes (d): `Change::ProtectOnly(x)` names it, and `protect(&staged[..x])` would have to count it again.
 #[tactic(auto, unfolding(rules::specs::Rules::protecting, rules::specs::Rules::protect_verdict, command::specs::Decision::judged))]
 pub fn protect(staged: &[u8], x: usize) -> Decision
     requires { x ≤ length staged.now }
     ensures { result ≡ protecting staged.now x }
 {
-    let sectors = all_indexed(staged, x);
+    let sectors = all_indexed(&staged[..x]);
     if !sectors {
         return command::nack(Why::BadSector);
     }

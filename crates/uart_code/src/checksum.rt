@@ -17,6 +17,7 @@ pub fn complemented(bytes: &[u8]) -> bool
 }
 
 // Whether the byte behind x bytes is the XOR of them and of x - 1.
+// Kept: x beside the bytes (d): the rule is one of x, and `checks_counted(&bytes[..x + 1])` would count it back by `len() - 1`.
 pub fn checks_counted(bytes: &[u8], x: usize) -> bool
     requires { (length bytes.now ≡ staged_bytes) × (1 ≤ x) × (x ≤ largest_count) }
     ensures { result ≡ checks_counted x bytes.now }
@@ -25,6 +26,7 @@ pub fn checks_counted(bytes: &[u8], x: usize) -> bool
 }
 
 // Whether the byte behind x two-byte numbers is the XOR of them and of the selector.
+// Kept: x beside the bytes (d), as above: `&bytes[..2 * x + 1]` would have to be halved again.
 pub fn checks_numbered(bytes: &[u8], x: usize) -> bool
     requires { (length bytes.now ≡ staged_bytes) × (1 ≤ x) × (x ≤ sectors.count) }
     ensures { result ≡ checks_numbered x bytes.now }

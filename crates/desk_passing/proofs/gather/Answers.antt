@@ -3,6 +3,7 @@ use native.Mathlib.Omega.{arith}
 use mathlib.Core.Path.{◌∙◌}
 use Prim.Native.Nat.{◌+◌, ◌≤◌, ◌<◌}
 use lib.ListN.{length, drop}
+use lib.Seq.{length-take-le}
 use Rattle.words.proofs.Slices.{to_the_end}
 use Rattle.boot.proofs.Sound.{sound_taken, sound_expected}
 use Rattle.desk_passing.specs.Passing.{SilentLine}
@@ -32,7 +33,8 @@ silent_line-requires-clause-taken_le_expected c = omega (arith, sound_taken c.lo
 pub stage-requires : goal.stage-requires
 stage-requires c =
     let b = brought (goal.at.stage-requires c).In-Some in
-    (omega (arith, b.1, sound_expected c.loop-line.here c.loop-line.invariant.1.firm), omega (arith, b.0, c.loop-line.invariant.0, c.silent_line.auto.new))
+    let n = length-take-le c.in-Some.line.count c.silent_line.new.new (omega (arith, b.0, c.loop-line.invariant.0, c.silent_line.auto.new)) in
+    omega (arith, b.1, n, sound_expected c.loop-line.here c.loop-line.invariant.1.firm)
 
 pub overflow_add-here : goal.overflow_add-here
 overflow_add-here c =

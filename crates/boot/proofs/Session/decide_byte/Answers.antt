@@ -2,7 +2,7 @@
 use native.Mathlib.Omega.{arith}
 use Rattle.command.specs.Decision.{if◌gives◌else◌, answer}
 use mathlib.Core.Path.{◌≡◌, ap, subst, sym, ◌∙◌}
-use Prim.Native.Nat.{ℕ, ◌+◌, ◌<◌}
+use Prim.Native.Nat.{◌+◌, ◌<◌}
 use lib.Dec.{T, ltb}
 use lib.ListN.{length}
 use Rattle.command.specs.Progress.{Progress}

@@ -2,7 +2,7 @@
 use native.Mathlib.Omega.{arith}
 use Rattle.command.specs.Decision.{if◌gives◌else◌}
 use mathlib.Core.Path.{◌≡◌, ap, subst, sym, ◌∙◌}
-use Prim.Native.Nat.{ℕ, ◌<◌, ◌≤◌}
+use Prim.Native.Nat.{◌<◌, ◌≤◌}
 use lib.Dec.{T}
 use lib.ListN.{length}
 use lib.Seq.{take-length}

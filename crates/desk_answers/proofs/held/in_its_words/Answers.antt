@@ -3,8 +3,7 @@ use mathlib.Core.Path.{refl}
 use Rattle.command.specs.declared.Why.TheVariants.{BadComplement, UnknownCommand, AccessProtected, OtherFrame, BadChecksum, BadAddress}
 use Rattle.command.specs.declared.Why.TheVariants.{BadRange, BadSector, WriteProtected, UnsupportedErase, BadSpeed}
 use Rattle.desk_answers.specs.Why.{InItsWords}
-use Rattle.desk_answers.proofs.held.in_its_words.Statement.{statement}
-use Rattle.desk_answers.proofs.held.in_its_words.Tie as tie
+use Rattle.desk_answers.proofs.held.in_its_words.Goals as goal
 
 in-its-words : InItsWords
 in-its-words BadComplement = refl
@@ -19,5 +18,5 @@ in-its-words WriteProtected = refl
 in-its-words UnsupportedErase = refl
 in-its-words BadSpeed = refl
 
-pub in_its_words_spec : {M : Type 1} → statement M
-in_its_words_spec = tie.close (tie.spec (λ c. in-its-words))
+pub returns : goal.returns
+returns c = in-its-words

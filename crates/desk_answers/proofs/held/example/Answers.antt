@@ -14,12 +14,11 @@ use Rattle.boot.specs.Calls as BK
 use Rattle.desk_lines.specs.Lines.{kind_of}
 use Rattle.desk_answers.specs.Answers.{made, makes, answer_by, answer}
 use Rattle.desk_answers.specs.Example.{Example}
-use Rattle.desk_answers.proofs.held.example.Statement.{statement}
-use Rattle.desk_answers.proofs.held.example.Tie as tie
+use Rattle.desk_answers.proofs.held.example.Goals as goal
 
 example : Example
 unfolding kind_of made makes answer_by answer BK.call BK.perform BK.sent BK.decide BK.cause_for BC.cause_of BD.connected BD.decide_byte BD.decide_frame BS.after BS.sound UC.obeyed UC.commanded UC.complete UC.heard S.says Q.unless_protected D.if◌gives◌else◌ E.effect W.view_of W.write_protected R.regions R.place_of
 example = refl
 
-pub example_spec : {M : Type 1} → statement M
-example_spec = tie.close (tie.spec (λ c. example))
+pub returns : goal.returns
+returns c = example
