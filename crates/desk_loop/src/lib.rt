@@ -1,11 +1,10 @@
 // Reads a host's lines and writes the answers, over a reader and a writer: what is read and written is not proved, what is done with it is.
-// Kept: flash, SRAM and user system data are passed side by side here. Behind a `lent: &mut Lent` a call promises that the same slices are lent (`Same`),
-// and not that they keep their lengths, which `Fits` asks of what `tell` is lent (tried: `tell-requires` stayed open in `turn` and in `get_up`).
 #![tactic(auto)]
 
-ghost use Rattle.std.specs.Prelude.{◌≡◌, true, ◌+◌, ◌^◌, ◌≤◌, ◌<◌, length, IsErr, OnOk, OnErr};
+ghost use Rattle.std.specs.Prelude.{◌≡◌, true, ◌+◌, ◌^◌, ◌≤◌, ◌<◌, T, length, IsErr, OnOk, OnErr};
 ghost use Rattle.words.specs.Texts.{characters};
-ghost use Rattle.memories.specs.Lent.{held, were, are};
+ghost use Rattle.memories.specs.Lent.{holds, had, has, Same};
+ghost use Rattle.memories.specs.Memories.{proper};
 ghost use Rattle.keeping.specs.Kept.{Fits, Kept, Begins};
 ghost use Rattle.desk_answers.specs.Desk.{kept_characters, input_ends};
 ghost use Rattle.desk_hearing.specs.Promise.{desk_of};
@@ -49,30 +48,28 @@ fn turn<R: System, F: Read, W: Write>(
     from: &mut F,
     to: &mut W,
     line: &mut [u8],
-    flash: &mut [u8],
-    sram: &mut [u8],
-    usd: &mut [u8],
+    lent: &mut Lent<'_>,
     out: &mut [u8],
     kept: &mut [u8],
 ) -> Result<bool, Untold>
     requires ready_2 { Ready desk.old line.old out.old }
     requires read_characters_bound { desk.old.lines + read_characters < 2 ^ 64 }
-    requires fits { Fits (held flash sram usd) kept.old }
-    requires kept_2 { Kept name.now (held flash sram usd) kept.old }
+    requires fits { Fits (holds lent.old) kept.old }
+    requires kept_2 { Kept name.now (holds lent.old) kept.old }
     ensures ready { Ready desk.new line.new out.new }
     ensures few { desk.new.lines ≤ desk.old.lines + read_characters }
-    ensures heard { Turns (desk_of desk.old line.old (were flash sram usd)) out.old
-        (desk_of desk.new line.new (are flash sram usd)) out.new result }
-    ensures kept { OnOk result (Kept name.now (are flash sram usd) kept.new) }
+    ensures heard { Turns (desk_of desk.old line.old (had lent)) out.old
+        (desk_of desk.new line.new (has lent)) out.new result }
+    ensures lengths { T (proper (has lent)) }
+    ensures kept { OnOk result (Kept name.now (has lent) kept.new) }
+    ensures same { Same lent }
 {
     let mut input = [0u8; READ_CHARACTERS];
     let n = files::read_once(from, &mut input);
-    let mut lent = Lent { flash, sram, usd };
-    *desk = hear(*desk, &input[..n], line, &mut lent, out);
+    *desk = hear(*desk, &input[..n], line, lent, out);
     let end = desk.end;
     desk.end = 0;
-    let lent = Lent { flash, sram, usd };
-    tell(rt, name, &lent, kept, to, &out[..end])?;
+    tell(rt, name, lent, kept, to, &out[..end])?;
     Ok(0 < n)
 }
 
@@ -84,23 +81,23 @@ fn read_on<R: System, F: Read, W: Write>(
     from: &mut F,
     to: &mut W,
     line: &mut [u8],
-    flash: &mut [u8],
-    sram: &mut [u8],
-    usd: &mut [u8],
+    lent: &mut Lent<'_>,
     out: &mut [u8],
     kept: &mut [u8],
 ) -> Result<(), Untold>
     requires ready_2 { Ready desk.old line.old out.old }
     requires no_lines { desk.old.lines ≡ 0 }
-    requires fits { Fits (held flash sram usd) kept.old }
-    requires kept_2 { Kept name.now (held flash sram usd) kept.old }
+    requires fits { Fits (holds lent.old) kept.old }
+    requires kept_2 { Kept name.now (holds lent.old) kept.old }
     ensures ready { Ready desk.new line.new out.new }
     ensures few { desk.new.lines ≤ 2 ^ 63 }
-    ensures heard { HasHeard (desk_of desk.old line.old (were flash sram usd)) (desk_of desk.new line.new (are flash sram usd)) }
-    ensures kept { OnOk result (Kept name.now (are flash sram usd) kept.new) }
+    ensures heard { HasHeard (desk_of desk.old line.old (had lent)) (desk_of desk.new line.new (has lent)) }
+    ensures lengths { T (proper (has lent)) }
+    ensures kept { OnOk result (Kept name.now (has lent) kept.new) }
+    ensures same { Same lent }
 {
     for _ in 0..MOST {
-        let more = turn(rt, desk, name, from, to, line, flash, sram, usd, out, kept)?;
+        let more = turn(rt, desk, name, from, to, line, lent, out, kept)?;
         if !more {
             return Ok(());
         }
@@ -116,26 +113,23 @@ fn get_up<R: System, W: Write>(
     name: &[u8],
     to: &mut W,
     line: &mut [u8],
-    flash: &mut [u8],
-    sram: &mut [u8],
-    usd: &mut [u8],
+    lent: &mut Lent<'_>,
     out: &mut [u8],
     kept: &mut [u8],
 ) -> Result<(), Untold>
     requires ready { Ready desk.old line.old out.old }
     requires lines_bound { desk.old.lines + 1 < 2 ^ 64 }
-    requires fits { Fits (held flash sram usd) kept.old }
-    requires kept_2 { OnOk told (Kept name.now (held flash sram usd) kept.old) }
-    ensures left { desk_of desk.new line.new (are flash sram usd)
-        ≡ (input_ends (desk_of desk.old line.old (were flash sram usd))).state }
+    requires fits { Fits (holds lent.old) kept.old }
+    requires kept_2 { OnOk told (Kept name.now (holds lent.old) kept.old) }
+    ensures left { desk_of desk.new line.new (has lent)
+        ≡ (input_ends (desk_of desk.old line.old (had lent))).state }
     ensures untold { OnErr told (IsErr result) }
-    ensures kept { OnOk result (Kept name.now (are flash sram usd) kept.new) }
+    ensures kept { OnOk result (Kept name.now (has lent) kept.new) }
+    ensures same { Same lent }
 {
-    let mut lent = Lent { flash, sram, usd };
-    *desk = finish(*desk, line, &mut lent, out);
+    *desk = finish(*desk, line, lent, out);
     told?;
-    let lent = Lent { flash, sram, usd };
-    tell(rt, name, &lent, kept, to, &out[..desk.end])
+    tell(rt, name, lent, kept, to, &out[..desk.end])
 }
 
 // Reads until the input ends, answers a last line that has no LF, and hands back the desk that is left; where something could not be kept or written,
@@ -147,19 +141,18 @@ fn sit<R: System, F: Read, W: Write>(
     from: &mut F,
     to: &mut W,
     line: &mut [u8],
-    flash: &mut [u8],
-    sram: &mut [u8],
-    usd: &mut [u8],
+    lent: &mut Lent<'_>,
     out: &mut [u8],
     kept: &mut [u8],
 ) -> (Desk, Result<(), Untold>)
     requires line_len { length line.old ≡ kept_characters }
     requires out_characters_in_bounds { out_characters ≤ length out.old }
-    requires begins { Begins name.now (held flash sram usd) }
-    requires fits { Fits (held flash sram usd) kept.old }
-    requires kept_2 { Kept name.now (held flash sram usd) kept.old }
-    ensures left { LeftBy why (were flash sram usd) (desk_of result.0 line.new (are flash sram usd)) }
-    ensures kept { OnOk result.1 (Kept name.now (are flash sram usd) kept.new) }
+    requires begins { Begins name.now (holds lent.old) }
+    requires fits { Fits (holds lent.old) kept.old }
+    requires kept_2 { Kept name.now (holds lent.old) kept.old }
+    ensures left { LeftBy why (had lent) (desk_of result.0 line.new (has lent)) }
+    ensures kept { OnOk result.1 (Kept name.now (has lent) kept.new) }
+    ensures same { Same lent }
 {
     let mut desk = Desk {
         session: Session::power_on(),
@@ -168,12 +161,8 @@ fn sit<R: System, F: Read, W: Write>(
         kept: 0,
         end: 0,
     };
-    let told = read_on(
-        rt, &mut desk, name, from, to, line, flash, sram, usd, out, kept,
-    );
-    let told = get_up(
-        rt, &mut desk, told, name, to, line, flash, sram, usd, out, kept,
-    );
+    let told = read_on(rt, &mut desk, name, from, to, line, lent, out, kept);
+    let told = get_up(rt, &mut desk, told, name, to, line, lent, out, kept);
     (desk, told)
 }
 
@@ -183,19 +172,24 @@ pub fn run<R: System, F: Read, W: Write>(rt: &R, why: bool, name: &[u8], from: &
     let mut flash = fresh::flash();
     let mut sram = fresh::sram();
     let mut usd = fresh::usd();
-    let mut kept = words::zeros::<MEMORIES_BYTES>();
     let mut lent = Lent {
         flash: &mut flash,
         sram: &mut sram,
         usd: &mut usd,
     };
+    let mut kept = words::zeros::<MEMORIES_BYTES>();
     let begun = begin(rt, name, &mut lent, &mut kept);
     if begun.is_err() {
         return; // why is said
     }
     let mut line = [0u8; KEPT_CHARACTERS];
     let mut out = room();
+    let mut lent = Lent {
+        flash: &mut flash,
+        sram: &mut sram,
+        usd: &mut usd,
+    };
     let _ = sit(
-        rt, why, name, from, to, &mut line, &mut flash, &mut sram, &mut usd, &mut out, &mut kept,
+        rt, why, name, from, to, &mut line, &mut lent, &mut out, &mut kept,
     );
 }

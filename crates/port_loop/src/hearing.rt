@@ -72,6 +72,7 @@ pub fn hear(session: Session, st: bool, bytes: &[u8], lent: &mut Lent<'_>, out: 
     let mut here = session;
     let mut end = 0;
     let mut i = 0;
+    // Kept: only `hear_front` tells how far a front goes, so no iterator gives the places (d).
     while i < n {
         let stop = until(st, i, n);
         let part = &mut out[end..end + uart::ROOM];

@@ -1,0 +1,14 @@
+-- What was heard left the memories their lengths.
+use Rattle.std.proofs.Common.{refl}
+use Rattle.keeping.proofs.Rooms.{proper_fit, fits_again}
+use Rattle.desk_loop.proofs.Lengths.{heard_proper}
+use Rattle.desk_loop.proofs.turn.Goals as goal
+
+pub tell-requires : goal.tell-requires
+tell-requires g c = fits_again c.requires.fits (heard_proper _ _ c.hear.ensures.told (proper_fit c.requires.fits)) refl
+
+pub returns-clause-lengths : goal.returns-clause-lengths
+returns-clause-lengths g c = heard_proper _ _ c.hear.ensures.told (proper_fit c.requires.fits)
+
+pub returns-in_err-tell-clause-lengths : goal.returns-in_err-tell-clause-lengths
+returns-in_err-tell-clause-lengths g c = heard_proper _ _ c.hear.ensures.told (proper_fit c.requires.fits)
