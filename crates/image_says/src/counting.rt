@@ -1,5 +1,5 @@
 // Counts the bytes that a file has loaded and the sectors that hold them, by their marks.
-ghost use Rattle.std.specs.Prelude.{◌≡◌, eqb, length, count_by};
+ghost use Rattle.std.specs.Prelude.{◌≡◌, ◌<◌, eqb, length, count_by};
 ghost use Rattle.words.specs.Lists.{count_from};
 ghost use Rattle.board.specs.Board.{flash, sectors};
 ghost use Rattle.loading.specs.Loads.{mark};
@@ -19,20 +19,23 @@ fn bytes(touched: &[u8]) -> usize
         .count()
 }
 
+// Whether some byte of a sector is marked.
+fn in_sector(touched: &[u8], k: usize) -> bool
+    requires { (length touched.now ≡ flash.bytes) × (k < sectors.count) }
+    ensures { result ≡ in_sector touched.now k }
+{
+    let first = board::quantities::bytes_in(k);
+    judging::any_touched(&touched[first..first + Board::SECTOR_BYTES])
+}
+
 // In how many sectors some byte is marked.
 fn sectors(touched: &[u8]) -> usize
     requires { length touched.now ≡ flash.bytes }
     ensures { result ≡ count_by (in_sector touched.now) (count_from 0 sectors.count) }
 {
-    let mut count = 0;
-    for k in 0..Board::SECTORS {
-        let first = board::quantities::bytes_in(k);
-        let marked = judging::any_touched(&touched[first..first + Board::SECTOR_BYTES]);
-        if marked {
-            count += 1;
-        }
-    }
-    count
+    (0..Board::SECTORS)
+        .filter(|k| in_sector(touched, *k))
+        .count()
 }
 
 // How many bytes are marked, and in how many sectors.

@@ -55,18 +55,18 @@ fn load<R: System>(rt: &R, name: &[u8], text: &[u8], shift: i16, bytes: usize, i
     print_rows(rt, &before, image);
 }
 
-// The shift that argument i writes; none that it writes is 0.
-fn shift_at<R: System>(rt: &R, i: usize) -> i16 {
+// What argument i writes by a function that reads it, if it writes such a thing.
+fn written<R: System, T, F: FnOnce(&[u8]) -> Option<T>>(
+    rt: &R,
+    i: usize,
+    called: &[u8],
+    read: F,
+) -> Option<T>
+    requires { F.IsAlwaysCallable read }
+{
     let mut word = io::buffer();
-    let n = files::argument(rt, i, b"SHIFT", &mut word).unwrap_or(0);
-    arguments::shift(&word[..n]).unwrap_or(0)
-}
-
-// The number that argument i writes; none that it writes is 0.
-fn number_at<R: System>(rt: &R, i: usize) -> usize {
-    let mut word = io::buffer();
-    let n = files::argument(rt, i, b"BYTES", &mut word).unwrap_or(0);
-    arguments::number(&word[..n]).map_or(0, |number| number as usize)
+    let n = files::argument(rt, i, called, &mut word).unwrap_or(0);
+    read(&word[..n])
 }
 
 // Loads the file of the three arguments from i on.
@@ -87,8 +87,8 @@ fn load_three<R: System>(rt: &R, i: usize, image: &mut [u8])
         rt,
         &name[..k],
         &text[..n],
-        shift_at(rt, i + 1),
-        number_at(rt, i + 2),
+        written(rt, i + 1, b"SHIFT", arguments::shift).unwrap_or(0),
+        written(rt, i + 2, b"BYTES", arguments::number).unwrap_or(0) as usize,
         image,
     );
 }

@@ -14,8 +14,8 @@ fn decode(digits: &[u8], image: &mut [u8], at: usize)
     requires { T (are_pairs digits.now) × (at + length (bytes_in digits.now) ≤ length image.old) }
     ensures { image.new ≡ put image.old at (bytes_in digits.now) }
 {
-    for i in 0..digits.len() / 2 {
-        image[at + i] = digits::byte_at(digits, i);
+    for (i, pair) in digits.chunks_exact(2).enumerate() {
+        image[at + i] = digits::byte_at(pair, 0);
     }
 }
 

@@ -7,13 +7,12 @@ use native.Mathlib.Numerals.{add-one}
 use native.Mathlib.Omega.{arith}
 use lib.Dec.{T, leb, leb→le}
 use lib.ListN.{length, get_or, take, drop}
-use lib.Seq.{drop-cons, drop-length, take-suc, drop-nil, take-nil}
+use lib.Seq.{drop-cons, drop-length, drop-nil, take-nil}
 use borrow.Author.Tests.{leb-true, le-leb, lt-leb}
 use lib.Dec.{eqb}
 use Rattle.words.specs.Lists.{all}
 use Rattle.words.proofs.Tests.{both_left, both_right, holds_true}
 use Rattle.records.specs.Digits.{is_digit, value_of, are_pairs, bytes_in}
-use Rattle.records.specs.Records.{sum}
 
 -- a digit lies among 0 to 9, among A to F or among a to f
 pub digit_lies {ℓ} : {P : Type ℓ} (c : ℕ) → T (is_digit c)
@@ -107,13 +106,26 @@ length_pairs [] t = refl
 length_pairs (a ∷ []) t = absurd t
 length_pairs (a ∷ b ∷ l) t = let e = length_pairs l (both_right (is_digit a && is_digit b) (are_pairs l) t) in omega arith
 
--- the sum with one byte more
-sum_snoc : (l : List ℕ) (b : ℕ) → sum (l ++ (b ∷ [])) ≡ sum l + b
-sum_snoc [] b = omega arith
-sum_snoc (a ∷ l) b = let e = sum_snoc l b in omega arith
+-- pairs that begin with one: those behind it, and the bytes that they write
+pub record PairFirst (s f t : List ℕ) : Type 0 where
+  pub behind : T (are_pairs t)
+  pub byte : bytes_in s ≡ get_or (bytes_in f) 0 0 ∷ bytes_in t
 
-pub sum_more : (l : List ℕ) (i : ℕ) → i < length l → sum (take (i + 1) l) ≡ sum (take i l) + get_or l i 0
-sum_more l i h = rw (add-one, take-suc l i 0) (sum_snoc (take i l) (get_or l i 0))
+pub pair_taken : (s f t : List ℕ) → s ≡ f ++ t → length f ≡ 2 → T (are_pairs s) → PairFirst s f t
+pair_taken s (a ∷ b ∷ []) t e n h =
+    record {
+      behind = both_right (is_digit a && is_digit b) (are_pairs t) (rw e at h);
+      byte = ap bytes_in e;
+    }
+pair_taken s [] t e n h = absurd (omega arith)
+pair_taken s (a ∷ []) t e n h = absurd (omega arith)
+pair_taken s (a ∷ b ∷ c ∷ f) t e n h = absurd (omega arith)
+
+-- where too few characters for a pair are left, no byte is
+pub no_pairs : (l : List ℕ) → length l < 2 → bytes_in l ≡ []
+no_pairs [] h = refl
+no_pairs (a ∷ []) h = refl
+no_pairs (a ∷ b ∷ l) h = absurd (omega arith)
 
 -- the low four bits of a digit, and nine more for a letter, count its value
 pub value_bits : (c : ℕ) → T (is_digit c) → (c % 16 + c / 64 * 9 ≡ value_of c) × (c % 16 + c / 64 * 9 < 16)

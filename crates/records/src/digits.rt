@@ -40,8 +40,8 @@ pub fn sum_of(digits: &[u8]) -> u8
     ensures { result ≡ sum (bytes_in digits.now) % 256 }
 {
     let mut total: u32 = 0;
-    for i in 0..digits.len() / 2 {
-        total += u32::from(byte_at(digits, i));
+    for pair in digits.chunks_exact(2) {
+        total += u32::from(byte_at(pair, 0));
     }
     (total % 256) as u8
 }

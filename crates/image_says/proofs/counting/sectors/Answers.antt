@@ -1,25 +1,16 @@
--- Each turn counts the sector, if some byte of it is marked.
-use Rattle.std.proofs.Common.{◌≡◌, ◌+◌, ◌-◌, add-zero, sym, ◌∙◌, arith}
+-- The chain counts the sectors of which some byte is marked.
+use Rattle.std.proofs.Common.{refl, ◌∙◌, rules, tests}
+use Rattle.std.proofs.lemmas.Iterator.{YieldsList-from_range}
+use Rattle.std.proofs.lemmas.Iterator.Consumers.{YieldsList-from_filter, count_from_yields_List}
+use Rattle.std.proofs.lemmas.List.Sums.{length-filter}
+use Rattle.words.specs.Lists.{count_from}
 use Rattle.image_says.specs.Tally.{in_sector}
-use Rattle.image_says.proofs.Marked.{none_yet, one_more, all_counted}
 use Rattle.image_says.proofs.counting.sectors.Goals as goal
-use Rattle.image_says.proofs.counting.sectors.Goals.{then-marked, else-marked}
-
-pub loop-k-init : goal.loop-k-init
-loop-k-init c = (omega arith, none_yet (in_sector c.args.touched.now) 32)
-
-pub loop-k-preserved : goal.loop-k-preserved
-loop-k-preserved c =
-    let f = in_sector c.args.touched.now in
-    let m = one_more f 32 c.loop-k.k c.loop-k.count (omega arith) c.loop-k.invariant.1 in
-    let k : c.bytes_in-first.result + 1024 - c.bytes_in-first.result ≡ 1024 = omega arith in
-    let e = rw (k, c.bytes_in-first.ensures) at c.any_touched-marked.ensures in
-    elim c.if-marked.branch [
-      | then-marked w ↦ (omega (arith, w.count-is, c.loop-k.invariant.0), rw w.count-is (rw (sym e ∙ w.if-marked.true) at m))
-      | else-marked w ↦ (omega (arith, w.count-is, c.loop-k.invariant.0), rw w.count-is (rw (sym e ∙ w.if-marked.false, add-zero) at m))
-    ]
 
 pub returns : goal.returns
 returns c =
-    let e : c.loop-k.k ≡ 32 = omega arith in
-    all_counted (in_sector c.args.touched.now) 32 c.loop-k.count (rw e at c.loop-k.invariant.1)
+    let f = in_sector c.args.touched.now in
+    let sectors = YieldsList-from_range 0 32 32 c.filter.ensures.source refl in
+    count_from_yields_List c.filter.result c.count.result c.count.ensures.ran
+    (YieldsList-from_filter _ f sectors c.filter.ensures.closure (λ x b q k. search (rules, tests)))
+    ∙ length-filter f (count_from 0 32)
