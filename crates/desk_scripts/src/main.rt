@@ -8,7 +8,9 @@ use files::system::System;
 fn run_script<R: System>(rt: &R, why: bool, name: &[u8]) {
     match files::open(rt, name) {
         Ok(mut file) => desk_loop::run(rt, why, b"", &mut file, &mut std::io::writer(rt)),
-        Err(error) => files::fail(rt, name, &error),
+        Err(error) => {
+            let _ = files::fail(rt, name, &error);
+        }
     }
 }
 
