@@ -22,21 +22,21 @@ const ERASED: u8 = 0xFF;
 
 // Room for an image, erased, and a byte more.
 pub fn erased() -> [u8; IMAGE_ROOM]
-    ensures { IMAGE_ROOM ≡ length result }
+    ensures { 32769 ≡ length result }
 {
     [ERASED; IMAGE_ROOM]
 }
 
 // Room for a text, and a character more.
 pub fn text_room() -> [u8; TEXT_ROOM]
-    ensures { TEXT_ROOM ≡ length result }
+    ensures { 2097153 ≡ length result }
 {
     words::zeros()
 }
 
 // Room for what is said.
 pub fn said_room() -> [u8; SAID_ROOM]
-    ensures { SAID_ROOM ≡ length result }
+    ensures { 4256 ≡ length result }
 {
     words::zeros()
 }
