@@ -1,4 +1,4 @@
--- Laws of hex digits and of pairs of them: where a digit lies, the first pair, and the pair of each byte.
+-- Laws of hex digits and of pairs of them: where a digit lies, a test of all, the first pair, and the pair of each byte.
 use mathlib.Core.Path.{◌≡◌, refl, ap, ◌∙◌}
 use mathlib.Core.Bool.{Bool, true, false, ◌&&◌, ◌||◌}
 use mathlib.Core.List.{List, [], ◌∷◌, ◌++◌}
@@ -10,6 +10,7 @@ use lib.ListN.{length, get_or, take, drop}
 use lib.Seq.{drop-cons, drop-length, drop-nil, take-nil}
 use borrow.Author.Tests.{leb-true, le-leb, lt-leb}
 use lib.Dec.{eqb}
+use Rattle.std.specs.List.{list_all}
 use Rattle.words.specs.Lists.{all}
 use Rattle.words.proofs.Tests.{both_left, both_right, holds_true}
 use Rattle.records.specs.Digits.{is_digit, value_of, are_pairs, bytes_in}
@@ -39,6 +40,11 @@ pair_first s i h =
     let e : i + 1 ≡ suc i = omega arith in
     let f : i + 2 ≡ suc (suc i) = omega arith in
     rw (e, f) (drop-cons s i 0 (omega arith) ∙ ap (λ (l : List ℕ). get_or s i 0 ∷ l) (drop-cons s (suc i) 0 (omega arith)))
+
+-- the library's test of all is the definition's
+pub same_all : (f : ℕ → Bool) (l : List ℕ) → list_all f l ≡ all f l
+same_all f [] = refl
+same_all f (x ∷ l) = ap (λ b. f x && b) (same_all f l)
 
 -- characters are pairs where they are even in number and all of them are digits
 pub pairs_all : (l : List ℕ) → (eqb (length l % 2) 0 && all is_digit l) ≡ are_pairs l

@@ -1,15 +1,10 @@
 -- The test that each character is put to is the definition's.
-use Rattle.std.proofs.Common.{ℕ, ◌≡◌, Bool, ◌&&◌, List, [], ◌∷◌, refl, ap, ◌∙◌, rules, tests}
+use Rattle.std.proofs.Common.{◌∙◌, rules, tests}
 use Rattle.std.proofs.lemmas.Iterator.{YieldsList-from_slice}
 use Rattle.std.proofs.lemmas.Iterator.Search.{all_from_yields_List}
-use Rattle.std.specs.List.{list_all}
-use Rattle.words.specs.Lists.{all}
+use Rattle.records.proofs.Pairs.{same_all}
 use Rattle.image_files.specs.Arguments.{is_decimal}
 use Rattle.image_files.proofs.arguments.are_decimal.Goals as goal
-
-same_all : (f : ℕ → Bool) (l : List ℕ) → list_all f l ≡ all f l
-same_all f [] = refl
-same_all f (x ∷ l) = ap (λ b. f x && b) (same_all f l)
 
 pub returns : goal.returns
 returns c =

@@ -1,17 +1,11 @@
 -- Characters are pairs where they are even in number and all of them are digits.
-use Rattle.std.proofs.Common.{ℕ, ◌≡◌, ◌%◌, Bool, ◌&&◌, List, [], ◌∷◌, length, refl, ap, ◌∙◌, rules, tests}
+use Rattle.std.proofs.Common.{◌%◌, length, ◌∙◌, rules, tests}
 use borrow.Author.Tests.{ne_eqb}
 use Rattle.std.proofs.lemmas.Iterator.{YieldsList-from_slice}
 use Rattle.std.proofs.lemmas.Iterator.Search.{all_from_yields_List}
-use Rattle.std.specs.List.{list_all}
-use Rattle.words.specs.Lists.{all}
 use Rattle.records.specs.Digits.{is_digit}
-use Rattle.records.proofs.Pairs.{pairs_all}
+use Rattle.records.proofs.Pairs.{same_all, pairs_all}
 use Rattle.records.proofs.digits.are_pairs.Goals as goal
-
-same_all : (f : ℕ → Bool) (l : List ℕ) → list_all f l ≡ all f l
-same_all f [] = refl
-same_all f (x ∷ l) = ap (λ b. f x && b) (same_all f l)
 
 pub returns-then-even : goal.returns-then-even
 returns-then-even c =
