@@ -8,7 +8,9 @@ use files::system::System;
 fn run_file<R: System>(rt: &R, st: bool, name: &[u8]) {
     match files::open(rt, name) {
         Ok(mut file) => port_loop::run(rt, st, b"", &mut file, &mut std::io::writer(rt)),
-        Err(error) => files::fail(rt, name, &error),
+        Err(error) => {
+            let _ = files::fail(rt, name, &error);
+        }
     }
 }
 
