@@ -4,6 +4,7 @@ use Rattle.std.specs.Borrow.{MutBor}
 use denote.Triple.Both.{Both}
 use Rattle.memories.specs.Memories.{Memories, memories}
 use Rattle.memories.specs.declared.Lent.{Lent}
+use Rattle.memories.specs.declared.Shown.{Shown}
 
 -- a slice that is lent to be changed, and the same at both ends of a call
 abbrev pub Slice : Type 0
@@ -29,6 +30,10 @@ are flash sram usd = held flash.exit sram.exit usd.exit
 -- what they hold
 abbrev pub holds : Lent → Memories
 holds m = held m.flash m.sram m.usd
+
+-- what they hold where they are only to be read
+abbrev pub shows : Shown → Memories
+shows m = memories m.flash.now m.sram.now m.usd.now
 
 -- what is lent together to be changed, at both ends of a call
 abbrev pub LentEnds : Type 0

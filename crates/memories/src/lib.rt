@@ -5,7 +5,7 @@ pub mod held;
 
 ghost use Rattle.std.specs.Prelude.{◌≡◌, T};
 ghost use Rattle.board.specs.View.{view_of};
-ghost use Rattle.memories.specs.Lent.{holds};
+ghost use Rattle.memories.specs.Lent.{holds, shows};
 ghost use Rattle.memories.specs.Memories.{proper};
 ghost use Rattle.memories.specs.Effects.{no_bytes};
 
@@ -41,7 +41,26 @@ pub struct Lent<'a> {
     pub usd: &'a mut [u8],
 }
 
+// The three memories, only to be read.
+#[derive(Clone, Copy)]
+pub struct Shown<'a> {
+    pub flash: &'a [u8],
+    pub sram: &'a [u8],
+    pub usd: &'a [u8],
+}
+
 impl Lent<'_> {
+    // The memories, only to be read.
+    pub fn shown(&self) -> Shown<'_>
+        ensures { shows result ≡ holds self.now }
+    {
+        Shown {
+            flash: self.flash,
+            sram: self.sram,
+            usd: self.usd,
+        }
+    }
+
     // Whether the memories have their lengths.
     pub fn lengths_right(&self) -> bool
         ensures { result ≡ proper (holds self.now) }
