@@ -128,7 +128,7 @@ impl Session {
         let decision = self.decide_byte(byte, taken, lent.view());
         let reply = decision.reply;
         let change = decision.change;
-        let length = reply::in_bytes::say(reply, lent, buffer);
+        let length = reply::in_bytes::say(reply, lent.shown(), buffer);
         memories_code::carry_out(change, &taken.staged, lent);
         self.accepted(Carrier::Uart, taken, decision, length)
     }
@@ -147,7 +147,7 @@ impl Session {
         let decision = self.decide_frame(Counted { id, carried }, taken, lent.view());
         let reply = decision.reply;
         let change = decision.change;
-        let length = reply::in_frames::say(reply, self.bears(id), lent, buffer);
+        let length = reply::in_frames::say(reply, self.bears(id), lent.shown(), buffer);
         memories_code::carry_out(change, &taken.staged, lent);
         self.accepted(Carrier::Can, taken, decision, length)
     }

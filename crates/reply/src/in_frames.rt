@@ -1,6 +1,6 @@
 // Writes a reply as CAN sends it.
 ghost use Rattle.std.specs.Prelude.{◌≡◌, ◌≤◌, ◌<◌, T, length};
-ghost use Rattle.memories.specs.Lent.{holds};
+ghost use Rattle.memories.specs.Lent.{shows};
 ghost use Rattle.memories.specs.Memories.{proper};
 ghost use Rattle.command.specs.Says.{says, sayable, Said};
 ghost use Rattle.frames.specs.Frames.{classic, framed, first_alone};
@@ -11,7 +11,7 @@ ghost use Rattle.reply.specs.Pieces.{piece_of};
 use crate::{ACK, LONGEST};
 use command::{Reply, code};
 use frames::{BYTES, CLASSIC, put};
-use memories::Lent;
+use memories::Shown;
 
 // n - 1, where n counts version and commands.
 const N_LESS_ONE: u8 = 0x0E;
@@ -47,12 +47,12 @@ fn put_reply(id: u16, bytes: &[u8], piece: usize, buffer: &mut [u8]) -> usize
 }
 
 // Writes a reply that can be given in frames of an ID, and tells its length.
-pub fn say(reply: Reply, id: u16, lent: &Lent<'_>, buffer: &mut [u8]) -> usize
-    requires { T (proper (holds lent.now)) × T (sayable reply) × (can_room ≤ length buffer.old) }
-    ensures { Said (framed classic id (says command_bytes reply (holds lent.now))) result buffer.old buffer.new }
+pub fn say(reply: Reply, id: u16, shown: Shown<'_>, buffer: &mut [u8]) -> usize
+    requires { T (proper (shows shown)) × T (sayable reply) × (can_room ≤ length buffer.old) }
+    ensures { Said (framed classic id (says command_bytes reply (shows shown.entry))) result buffer.old buffer.new }
 {
     let mut bytes = [0u8; uart::ROOM];
     let listed = commands();
-    let n = crate::say(&listed, reply, lent, &mut bytes);
+    let n = crate::say(&listed, reply, shown, &mut bytes);
     put_reply(id, &bytes[..n], piece_of(reply), buffer)
 }

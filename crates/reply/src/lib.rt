@@ -11,14 +11,14 @@ ghost use Rattle.words.specs.Over.{put};
 ghost use Rattle.board.specs.Board.{extent_of};
 ghost use Rattle.board.specs.Quantities.{largest_count};
 ghost use Rattle.word_crc.specs.Words.{word_crc};
-ghost use Rattle.memories.specs.Lent.{holds};
+ghost use Rattle.memories.specs.Lent.{shows};
 ghost use Rattle.memories.specs.Memories.{proper, bytes_of};
 ghost use Rattle.command.specs.Says.{reply_room, ack_byte, tells, says, sayable, fixed, Said};
 ghost use Rattle.reply.specs.Fixed.{fixed_room, listing, Lists};
 
 use board::{Board, Region};
 use command::{FixedReply, Reply, code};
-use memories::Lent;
+use memories::Shown;
 
 // ACK and NACK.
 pub const ACK: u8 = 0x79;
@@ -98,15 +98,15 @@ fn say_crc(value: u32, buffer: &mut [u8]) -> usize
 }
 
 // Writes x bytes of a region behind ACK.
-fn say_data(region: Region, at: usize, x: usize, lent: &Lent<'_>, buffer: &mut [u8]) -> usize
-    requires { T (proper (holds lent.now)) × (x ≤ largest_count) × (at + x ≤ (extent_of region).bytes)
+fn say_data(region: Region, at: usize, x: usize, shown: Shown<'_>, buffer: &mut [u8]) -> usize
+    requires { T (proper (shows shown)) × (x ≤ largest_count) × (at + x ≤ (extent_of region).bytes)
         × (reply_room ≤ length buffer.old) }
-    ensures { (result ≡ x + 1) × (buffer.new ≡ put buffer.old 0 (ack_byte ∷ part at x (bytes_of region (holds lent.now)))) }
+    ensures { (result ≡ x + 1) × (buffer.new ≡ put buffer.old 0 (ack_byte ∷ part at x (bytes_of region (shows shown.entry)))) }
 {
     let memory: &[u8] = match region {
-        Region::Flash => lent.flash,
-        Region::Sram => lent.sram,
-        Region::Usd => lent.usd,
+        Region::Flash => shown.flash,
+        Region::Sram => shown.sram,
+        Region::Usd => shown.usd,
     };
     say_bytes(&memory[at..at + x], buffer)
 }
@@ -139,14 +139,14 @@ fn say_sum(bytes: &[u8], buffer: &mut [u8]) -> usize
 }
 
 // Writes the bytes of a reply that can be given, message behind message, and tells how many; what a carrier tells of its commands is given.
-pub fn say(commands: &[u8], reply: Reply, lent: &Lent<'_>, buffer: &mut [u8]) -> usize
-    requires { (length commands.now ≤ fixed_room) × T (proper (holds lent.now)) × T (sayable reply) × (reply_room ≤ length buffer.old) }
-    ensures { ((list : List ℕ) → Lists commands.now list → Said (join (says list reply (holds lent.now))) result buffer.old buffer.new)
+pub fn say(commands: &[u8], reply: Reply, shown: Shown<'_>, buffer: &mut [u8]) -> usize
+    requires { (length commands.now ≤ fixed_room) × T (proper (shows shown)) × T (sayable reply) × (reply_room ≤ length buffer.old) }
+    ensures { ((list : List ℕ) → Lists commands.now list → Said (join (says list reply (shows shown.entry))) result buffer.old buffer.new)
         × (result ≤ reply_room) × (T (fixed reply) → result ≤ fixed_room) }
 {
     match reply {
-        Reply::Data(region, at, x) => say_data(region, at, x, lent, buffer),
-        Reply::Crc(at, n) => say_sum(&lent.flash[at..at + n], buffer),
+        Reply::Data(region, at, x) => say_data(region, at, x, shown, buffer),
+        Reply::Crc(at, n) => say_sum(&shown.flash[at..at + n], buffer),
         Reply::Fixed(told) => {
             let bytes = fixed_bytes(commands, told);
             words::lay(buffer, 0, bytes);

@@ -10,7 +10,7 @@ use lib.ListN.{length}
 use Rattle.words.specs.Lists.{part}
 use Rattle.words.proofs.Over.{put_front}
 use Rattle.words.proofs.Slices.{length_part}
-use Rattle.memories.specs.Lent.{holds}
+use Rattle.memories.specs.Lent.{shows}
 use Rattle.memories.specs.Memories.{bytes_of}
 use Rattle.memories.proofs.Memories.{proper_length}
 use Rattle.command.specs.Says.{says, fixed, Said}
@@ -29,7 +29,7 @@ returns-in-Data c =
     let g = c.in-Data.region in
     let at = c.in-Data.at in
     let x = c.in-Data.x in
-    let m = holds c.args.lent.now in
+    let m = shows c.args.shown in
     let h = data_there c.args.reply c.requires.2 g at x c.in-Data.is in
     let l : length (part at x (bytes_of g m)) ≡ x = length_part (bytes_of g m) at x (rw (proper_length m c.requires.1 g) h.1) in (
       λ list t. rw (c.in-Data.is, append-nil (part at x (bytes_of g m))) (record {

@@ -1,13 +1,15 @@
 -- What is refused leaves everything; what is clear of every cause is decided on, said and carried out with the memories as they were lent.
 use native.Mathlib.Omega.{arith}
-use mathlib.Core.Path.{ap, ◌∙◌}
+use mathlib.Core.Path.{sym, ap, subst, ◌∙◌}
 use mathlib.Core.List.{List}
 use Prim.Native.Nat.{ℕ}
-use lib.Dec.{leb→le}
+use lib.Dec.{T, leb→le}
 use lib.ListN.{length}
 use Rattle.memories.specs.Lent.{holds}
-use Rattle.command.specs.Says.{says}
+use Rattle.memories.specs.Memories.{Memories, proper}
+use Rattle.command.specs.Says.{says, Said}
 use Rattle.can.specs.Conversation.{can_room, command_bytes}
+use Rattle.frames.specs.Frames.{classic, framed}
 use Rattle.frames.proofs.Frames.{frame_length, frame_dlc, carried_length}
 use Rattle.boot.specs.Session.{gathered}
 use Rattle.boot.specs.Calls.{bears, cause_for, decide, sent}
@@ -45,7 +47,8 @@ decide_frame-decision-requires c =
 pub say-length-requires : goal.say-length-requires
 say-length-requires c =
     let k = clear _ _ _ c.args.self c.frame_cause.ensures c.in_default.is in
-    (k.lengths, c.decide_frame-decision.ensures.1, leb→le can_room (length c.args.buffer.now) k.enough)
+    let lengths = subst (λ (m : Memories). T (proper m)) (sym c.shown.ensures) k.lengths in
+    (lengths, c.decide_frame-decision.ensures.1, leb→le can_room (length c.args.buffer.now) k.enough)
 
 pub carry_out-requires : goal.carry_out-requires
 carry_out-requires c = ((clear _ _ _ c.args.self c.frame_cause.ensures c.in_default.is).lengths, c.decide_frame-decision.ensures.2)
@@ -64,8 +67,11 @@ returns-clause-took c =
     let gathers = c.gather-taken.ensures ∙ ap (λ (b : List ℕ). gathered b session) c.carried-carried.ensures.0 in
     let decides =
     frame_decided session view c.args.frame.now k.formed c.id-id.ensures c.carried-carried.ensures.0 c.decide_frame-decision.ensures.0 in
+    let said =
+    subst (λ (m : Memories). Said (framed classic c.bears.result (says command_bytes decision.reply m)) c.say-length.result
+    c.args.buffer.now c.say-length.new.buffer) c.shown.ensures c.say-length.ensures in
     let under = c.bears.ensures ∙ ap (λ (n : ℕ). bears session n) c.id-id.ensures in
     accepted_took g c.frame_cause.result c.frame_cause.ensures c.in_default.is
     (input_leaves g.input g.state view c.view.ensures c.gather-taken.result gathers decision decides c.args.buffer.now
-    (said_under (says command_bytes decision.reply g.state.memories) _ _ under c.say-length.ensures) c.carry_out.ensures.left
+    (said_under (says command_bytes decision.reply g.state.memories) _ _ under said) c.carry_out.ensures.left
     c.accepted.ensures)

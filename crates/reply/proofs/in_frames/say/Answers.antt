@@ -3,7 +3,7 @@ use native.Mathlib.Omega.{arith}
 use mathlib.Core.Path.{ap}
 use lib.ListN.{length, take, replicate}
 use Rattle.words.specs.Lists.{join}
-use Rattle.memories.specs.Lent.{holds}
+use Rattle.memories.specs.Lent.{shows}
 use Rattle.command.specs.Says.{says}
 use Rattle.can.specs.Conversation.{command_bytes}
 use Rattle.reply.proofs.Alone.{reply_alone, alone_room, said_taken}
@@ -13,7 +13,7 @@ pub put_reply-requires : goal.put_reply-requires
 put_reply-requires c =
     let room = c.say-n.new.buffer in
     let said = c.say-n.ensures.0 command_bytes c.commands-listed.ensures in
-    let reply = join (says command_bytes c.args.reply (holds c.args.lent.now)) in
+    let reply = join (says command_bytes c.args.reply (shows c.args.shown)) in
     let long = ap length (said_taken reply c.say-n.result (replicate 257 0) room said) in
     let r =
     alone_room c.args.id c.args.reply (take c.say-n.result room) (omega (arith, long, said.count, c.say-n.ensures.1))
@@ -22,7 +22,7 @@ put_reply-requires c =
 
 pub returns : goal.returns
 returns c =
-    let m = holds c.args.lent.now in
+    let m = shows c.args.shown in
     let said = c.say-n.ensures.0 command_bytes c.commands-listed.ensures in
     let front = said_taken (join (says command_bytes c.args.reply m)) c.say-n.result (replicate 257 0) c.say-n.new.buffer said in
     rw (reply_alone c.args.id command_bytes c.args.reply m) (rw (front, c.piece_of.ensures) at c.put_reply.ensures)
