@@ -69,7 +69,7 @@ fn turn<R: System, F: Read, W: Write>(
     *desk = hear(*desk, &input[..n], line, lent, out);
     let end = desk.end;
     desk.end = 0;
-    tell(rt, name, lent, kept, to, &out[..end])?;
+    tell(rt, name, lent.shown(), kept, to, &out[..end])?;
     Ok(0 < n)
 }
 
@@ -129,7 +129,7 @@ fn get_up<R: System, W: Write>(
 {
     *desk = finish(*desk, line, lent, out);
     told?;
-    tell(rt, name, lent, kept, to, &out[..desk.end])
+    tell(rt, name, lent.shown(), kept, to, &out[..desk.end])
 }
 
 // Reads until the input ends, answers a last line that has no LF, and hands back the desk that is left; where something could not be kept or written,

@@ -1,5 +1,5 @@
 -- What is lent still after two calls, one behind the other.
-use mathlib.Core.Path.{◌≡◌, ◌∙◌}
+use mathlib.Core.Path.{◌∙◌}
 use Rattle.memories.specs.Lent.{StillLent}
 use Rattle.memories.specs.declared.Lent.{Lent}
 

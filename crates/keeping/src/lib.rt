@@ -9,13 +9,13 @@ pub mod turns;
 
 ghost use Rattle.std.specs.Prelude.{◌≡◌, ◌↔◌, true, false, length, ◌+◌, IsOk, OnOk, OnErr};
 ghost use Rattle.std.specs.Io.KnownBytes.{Appends};
-ghost use Rattle.memories.specs.Lent.{holds, had, has, Same};
+ghost use Rattle.memories.specs.Lent.{holds, had, has, Same, shows};
 ghost use Rattle.keeping.specs.declared.Untold.TheVariants.{Unkept};
 ghost use Rattle.keeping.specs.Kept.{memories_bytes, in_bytes, memories_in, named, Fits, Kept};
 
 use files::Said;
 use files::system::System;
-use memories::Lent;
+use memories::{Lent, Shown};
 use room::{MEMORIES_BYTES, bring_back, is_held, take_down};
 use std::io::Write;
 
@@ -74,15 +74,15 @@ fn make<R: System>(
     rt: &R,
     missing: bool,
     name: &[u8],
-    lent: &Lent<'_>,
+    shown: Shown<'_>,
     kept: &mut [u8],
 ) -> Result<(), Said>
     requires missing_value { missing ≡ true }
-    requires fits { Fits (holds lent.now) kept.old }
-    ensures made { OnOk result (kept.new ≡ in_bytes (holds lent.now)) }
+    requires fits { Fits (shows shown) kept.old }
+    ensures made { OnOk result (kept.new ≡ in_bytes (shows shown.entry)) }
     ensures unkept { OnErr result (kept.new ≡ kept.old) }
 {
-    let first = take_down(lent);
+    let first = take_down(shown);
     put_down(rt, name, &first, kept)
 }
 
@@ -140,39 +140,39 @@ pub fn begin<R: System>(
     }
     let missing = files::is_missing(rt, name);
     if missing {
-        make(rt, missing, name, lent, kept)
+        make(rt, missing, name, lent.shown(), kept)
     } else {
         go_on(rt, name, lent, kept)
     }
 }
 
 // Keeps the memories in the file of a name, where they are not what was kept last, or says why it cannot; without a name it does nothing.
-pub fn keep<R: System>(rt: &R, name: &[u8], lent: &Lent<'_>, kept: &mut [u8]) -> Result<(), Said>
-    requires { Fits (holds lent.now) kept.old }
-    ensures kept { OnOk result (Kept name.now (holds lent.now) kept.new) }
+pub fn keep<R: System>(rt: &R, name: &[u8], shown: Shown<'_>, kept: &mut [u8]) -> Result<(), Said>
+    requires { Fits (shows shown) kept.old }
+    ensures kept { OnOk result (Kept name.now (shows shown.entry) kept.new) }
     ensures unkept { OnErr result (kept.new ≡ kept.old) }
-    ensures same { Kept name.now (holds lent.now) kept.old → IsOk result }
+    ensures same { Kept name.now (shows shown.entry) kept.old → IsOk result }
 {
     if name.is_empty() {
         return Ok(());
     }
-    let same = is_held(lent, kept);
+    let same = is_held(shown, kept);
     if same {
         return Ok(());
     }
-    let new = take_down(lent);
+    let new = take_down(shown);
     put_down(rt, name, &new, kept)
 }
 
-// Writes what is to be answered, once the memories are kept: only for that they are lent.
+// Writes what is to be answered, once the memories are kept: only for that they are shown.
 fn answer<W: Write>(
     name: &[u8],
-    lent: &Lent<'_>,
+    shown: Shown<'_>,
     kept: &[u8],
     to: &mut W,
     text: &[u8],
 ) -> Result<(), Untold>
-    requires { Kept name.now (holds lent.now) kept.now }
+    requires { Kept name.now (shows shown) kept.now }
     ensures { OnOk result (Appends (W.contents to.old) (W.contents to.new) text.now) }
 {
     to.write_all(text).map_err(|_| Untold::Unwritten)
@@ -182,15 +182,15 @@ fn answer<W: Write>(
 pub fn tell<R: System, W: Write>(
     rt: &R,
     name: &[u8],
-    lent: &Lent<'_>,
+    shown: Shown<'_>,
     kept: &mut [u8],
     to: &mut W,
     text: &[u8],
 ) -> Result<(), Untold>
-    requires { Fits (holds lent.now) kept.old }
-    ensures kept { OnOk result (Kept name.now (holds lent.now) kept.new) }
+    requires { Fits (shows shown) kept.old }
+    ensures kept { OnOk result (Kept name.now (shows shown.entry) kept.new) }
     ensures written { OnOk result (Appends (W.contents to.old) (W.contents to.new) text.now) }
 {
-    keep(rt, name, lent, kept)?;
-    answer(name, lent, kept, to, text)
+    keep(rt, name, shown, kept)?;
+    answer(name, shown, kept, to, text)
 }

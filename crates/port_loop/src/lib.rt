@@ -69,7 +69,7 @@ fn turn<R: System, F: Read, W: Write>(
     let heard = hear(*session, st, &input[..n], lent, out);
     *session = heard.session;
     let end = heard.length;
-    tell(rt, name, lent, kept, to, &out[..end])?;
+    tell(rt, name, lent.shown(), kept, to, &out[..end])?;
     Ok(0 < n)
 }
 
