@@ -7,7 +7,7 @@ ghost use Rattle.vector_lines.specs.Sizes.{session_bytes, reply_room, line_room}
 use crate::FIELDS;
 use boot::{Session, Taken};
 use desk_written::first::LINE_FEED;
-use memories::Lent;
+use memories::Shown;
 use std::io::Write;
 
 // The modulus of a digest's two sums, and how many bits each takes.
@@ -85,7 +85,7 @@ impl Line {
 }
 
 // The line that says what a call left: its cause, the reason of a NACK and its place, the reply, the session, and digests of what was lent.
-fn answer(taken: Taken, lent: &Lent<'_>, buffer: &[u8]) -> Line
+fn answer(taken: Taken, shown: Shown<'_>, buffer: &[u8]) -> Line
     requires { length buffer.now ≤ reply_room }
 {
     let mut line = Line::begun();
@@ -94,9 +94,9 @@ fn answer(taken: Taken, lent: &Lent<'_>, buffer: &[u8]) -> Line
     line.bytes(&taken.length.to_be_bytes());
     line.bytes(&buffer[..taken.length.min(buffer.len())]);
     line.session(taken.session);
-    line.digest(lent.flash);
-    line.digest(lent.sram);
-    line.digest(lent.usd);
+    line.digest(shown.flash);
+    line.digest(shown.sram);
+    line.digest(shown.usd);
     line.digest(buffer);
     line
 }
@@ -105,10 +105,10 @@ fn answer(taken: Taken, lent: &Lent<'_>, buffer: &[u8]) -> Line
 pub fn report<W: Write>(
     to: &mut W,
     taken: Taken,
-    lent: &Lent<'_>,
+    shown: Shown<'_>,
     buffer: &[u8],
 ) -> std::io::Result<()>
     requires { length buffer.now ≤ reply_room }
 {
-    answer(taken, lent, buffer).write(to)
+    answer(taken, shown, buffer).write(to)
 }

@@ -27,7 +27,7 @@ fn turn<F: Read, W: Write>(from: &mut F, to: &mut W) -> Option<()> {
         Input::Byte(byte) => before.take_byte(byte, &mut lent, buffer),
         Input::Frame(frame) => before.take_frame(frame, &mut lent, buffer),
     };
-    report::report(to, taken, &lent, buffer).ok()
+    report::report(to, taken, lent.shown(), buffer).ok()
 }
 
 fn main(rt: HostRuntime) {
