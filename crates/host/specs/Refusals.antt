@@ -15,8 +15,8 @@ refusal_no WrongImage = 1
 refusal_no OutsideFlash = 2
 refusal_no ShortRoom = 3
 
--- the number of what was tested: that of its refusal, and 0 where it is accepted
-abbrev pub tested_no : Result ⊤ Refusal → ℕ
+-- the number of what was tested or is told: that of its refusal, and 0 where it is accepted
+abbrev pub tested_no : {A : Type 0} → Result A Refusal → ℕ
 tested_no (Ok _) = 0
 tested_no (Err e) = refusal_no e
 

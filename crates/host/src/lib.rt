@@ -4,7 +4,7 @@
 pub mod held;
 
 ghost use Rattle.std.specs.Prelude.{◌≡◌};
-ghost use Rattle.host.specs.Refusals.{refusal_no};
+ghost use Rattle.host.specs.Refusals.{refusal_no, tested_no};
 
 use board::LessOne;
 
@@ -32,11 +32,24 @@ pub struct Made {
     pub carried: usize,
 }
 
+// The number of what is accepted.
+const ACCEPTED: u8 = 0;
+
 impl Refusal {
     // The number of the refusal.
     pub fn number(self) -> u8
         ensures { result ≡ refusal_no self }
     {
         self as u8
+    }
+}
+
+// The number of what is told of a command: that of its refusal, and 0 where one is made.
+pub fn number(told: Result<Made, Refusal>) -> u8
+    ensures { result ≡ tested_no told }
+{
+    match told {
+        Ok(_) => ACCEPTED,
+        Err(refusal) => refusal.number(),
     }
 }

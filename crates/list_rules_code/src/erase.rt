@@ -42,7 +42,7 @@ pub fn selector_of(number: u16) -> Selector
 fn numbered(bytes: &[u8; Sector::NUMBER_BYTES]) -> Sector
     ensures { result ≡ sector (number bytes.now) }
 {
-    Sector(words::number2(bytes[0], bytes[1]))
+    Sector::numbered(bytes, 0)
 }
 
 // Whether some two-byte numbers are all those of sectors of the board.

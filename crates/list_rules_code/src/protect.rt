@@ -16,7 +16,7 @@ fn all_exist(indexes: &[u8]) -> bool
 {
     indexes
         .iter()
-        .all(|index| Sector(u16::from(*index)).exists())
+        .all(|index| Sector::indexed(&[*index], 0).exists())
 }
 
 // Whether some bytes are indexes of sectors of the board alone.

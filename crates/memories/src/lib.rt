@@ -4,6 +4,7 @@
 pub mod held;
 
 ghost use Rattle.std.specs.Prelude.{◌≡◌, T};
+ghost use Rattle.board.specs.Usd.{protection_on};
 ghost use Rattle.board.specs.View.{view_of};
 ghost use Rattle.memories.specs.Lent.{holds, shows};
 ghost use Rattle.memories.specs.Memories.{proper};
@@ -68,6 +69,14 @@ impl Lent<'_> {
         (self.flash.len() == Board::FLASH_BYTES)
             & (self.sram.len() == Board::SRAM_BYTES)
             & (self.usd.len() == Board::USD_BYTES)
+    }
+
+    // Whether protection is on.
+    pub fn protection_on(&self) -> bool
+        requires { T (proper (holds self.now)) }
+        ensures { result ≡ protection_on self.now.usd.now }
+    {
+        board::usd::protection_on(self.usd)
     }
 
     // What of them the board may look at.

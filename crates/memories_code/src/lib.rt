@@ -89,7 +89,7 @@ fn protect_only(usd: &mut [u8], indexes: &[u8])
 {
     release(usd);
     for index in indexes {
-        protect_also(usd, Sector(*index as u16));
+        protect_also(usd, Sector::indexed(&[*index], 0));
     }
 }
 
@@ -99,8 +99,7 @@ fn unlock(lent: &mut Lent<'_>)
     ensures left { has lent ≡ effect Change.Unlock [] (had lent) }
     ensures same { Same lent }
 {
-    let view = lent.view();
-    let on = view.locked;
+    let on = lent.protection_on();
     if on {
         fill_all(lent.flash, ERASED);
         fill_all(lent.sram, WIPED);

@@ -7,18 +7,12 @@ use lib.Dec.{T}
 use lib.ListN.{length, replicate, set}
 use Rattle.board.specs.declared.Region.TheVariants.{Flash, Sram}
 use Rattle.board.specs.Usd.{protection_on}
-use Rattle.board.specs.View.{view_of}
-use Rattle.board.specs.declared.View.{View}
 use Rattle.memories.specs.Lent.{holds}
 use Rattle.memories.specs.Memories.{Memories, memories, proper}
 use Rattle.memories.specs.Effects.{erased_all, wiped, effect}
 use Rattle.memories.specs.declared.Change.TheVariants.{Unlock}
 use Rattle.memories.proofs.Memories.{proper_length}
 use Rattle.memories_code.proofs.unlock.Goals as goal
-
--- what a view says of protection
-abbrev locked : View → Bool
-locked v = v.locked
 
 -- what is filled is what a board with protection on becomes
 wipes : (m : Memories) {flash sram : List ℕ} → T (proper m) → protection_on m.usd ≡ true
@@ -33,10 +27,8 @@ unfolding effect
 stays m off = rw off
 
 pub returns-then-on-clause-left : goal.returns-then-on-clause-left
-unfolding view_of
 returns-then-on-clause-left c =
-    wipes (holds c.args.lent.now) c.requires (sym (ap locked c.view-view.ensures) ∙ c.if-on.true) c.fill_all.ensures c.fill_all-then-on.ensures
+    wipes (holds c.args.lent.now) c.requires (sym c.protection_on-on.ensures ∙ c.if-on.true) c.fill_all.ensures c.fill_all-then-on.ensures
 
 pub returns-else-on-clause-left : goal.returns-else-on-clause-left
-unfolding view_of
-returns-else-on-clause-left c = stays (holds c.args.lent.now) (sym (ap locked c.view-view.ensures) ∙ c.if-on.false)
+returns-else-on-clause-left c = stays (holds c.args.lent.now) (sym c.protection_on-on.ensures ∙ c.if-on.false)
