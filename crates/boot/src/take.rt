@@ -92,11 +92,7 @@ impl Session {
         ensures { result ≡ bears self id }
     {
         let here = self.on(Carrier::Can);
-        if here {
-            can::bears(can::Step::of(self.step), id)
-        } else {
-            id
-        }
+        if here { can::bears(self.step, id) } else { id }
     }
 
     // An accepted call tells how long its reply is, the reason and the place of a NACK in it, and hands back the session that follows.
