@@ -51,7 +51,7 @@ impl Session {
     {
         let here = self.on(Carrier::Uart);
         if here {
-            uart_code::heard(uart::Step::of(self.step), self.so_far(&taken), view)
+            uart_code::heard(self.step, self.so_far(&taken), view)
         } else {
             self.unconnected(byte == CONNECT_BYTE)
         }
@@ -65,7 +65,7 @@ impl Session {
     {
         let here = self.on(Carrier::Can);
         if here {
-            can_code::heard(can::Step::of(self.step), self.so_far(&taken), view, frame)
+            can_code::heard(self.step, self.so_far(&taken), view, frame)
         } else {
             self.unconnected(frame.id == CONNECT_ID)
         }

@@ -30,6 +30,6 @@ pub fn silent_frame(step: u8, taken: usize, expected: usize, id: u16, dlc: usize
     requires { taken ≤ expected }
     ensures { T result → SilentFrame step taken expected id dlc }
 {
-    let own = id == can::bears(can::Step::of(step), id);
+    let own = id == can::bears(step, id);
     own & (0 < dlc) & (dlc < expected - taken)
 }

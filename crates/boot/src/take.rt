@@ -2,7 +2,7 @@
 // Kept: two calls, since one over both would take what gathers, decides and says as three closures, whose contracts are what its body says.
 ghost use Rattle.std.specs.Prelude.{◌≡◌, true, T, leb, length};
 ghost use Rattle.memories.specs.Lent.{holds, had, has, Same};
-ghost use Rattle.memories.specs.Memories.{proper};
+ghost use Rattle.memories.specs.Memories.{lengths_right, proper};
 ghost use Rattle.uart.specs.Conversation as UC;
 ghost use Rattle.can.specs.Conversation as CC;
 ghost use Rattle.frames.specs.Frames.{classic, is_frame};
@@ -17,6 +17,13 @@ use command::Decision;
 use command::reason::NO_REASON;
 use frames::Counted;
 use memories::Lent;
+
+// Whether flash, SRAM and USD have their lengths.
+pub fn lengths_right(flash: usize, sram: usize, usd: usize) -> bool
+    ensures { result ≡ lengths_right flash sram usd }
+{
+    memories::lengths_right(flash, sram, usd)
+}
 
 impl Session {
     // The cause of what only the session tells.
@@ -92,11 +99,7 @@ impl Session {
         ensures { result ≡ bears self id }
     {
         let here = self.on(Carrier::Can);
-        if here {
-            can::bears(can::Step::of(self.step), id)
-        } else {
-            id
-        }
+        if here { can::bears(self.step, id) } else { id }
     }
 
     // An accepted call tells how long its reply is, the reason and the place of a NACK in it, and hands back the session that follows.

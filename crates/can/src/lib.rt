@@ -85,10 +85,10 @@ impl Step {
 }
 
 // The ID that replies bear: the frame's own, or while gathering the running one.
-pub fn bears(step: Step, id: u16) -> u16
-    ensures { result ≡ bears step id }
+pub fn bears(step: u8, id: u16) -> u16
+    ensures { result ≡ bears (step_of step) id }
 {
-    match step {
+    match Step::of(step) {
         Step::Idle => id,
         Step::WriteData => u16::from(code::WRITE_MEMORY),
         Step::EraseList => u16::from(code::ERASE),

@@ -9,7 +9,7 @@ ghost use Rattle.board.specs.Quantities.{largest_count};
 ghost use Rattle.memories.specs.Effects.{staged_bytes};
 ghost use Rattle.command.specs.Progress.{progress_of};
 ghost use Rattle.frames.specs.Frames.{classic, counted_of};
-ghost use Rattle.can.specs.Steps.{expects, expected_for_numbers};
+ghost use Rattle.can.specs.Steps.{step_of, expects, expected_for_numbers};
 ghost use Rattle.can.specs.Conversation.{decided};
 
 use board::{Address, Sector, View};
@@ -61,12 +61,12 @@ fn protect_frame(here: SoFar<'_>, frame: Counted<'_>) -> Decision
 }
 
 // What one frame of a connected host decides, given how far its session has come with the frame's data bytes taken.
-pub fn heard(step: Step, here: SoFar<'_>, view: View, frame: Counted<'_>) -> Decision
-    requires { (here.taken < here.expected) × T (expects step here.expected) × (length here.staged.now ≡ staged_bytes)
+pub fn heard(step: u8, here: SoFar<'_>, view: View, frame: Counted<'_>) -> Decision
+    requires { (here.taken < here.expected) × T (expects (step_of step) here.expected) × (length here.staged.now ≡ staged_bytes)
         × (length frame.carried.now ≤ classic.largest) }
-    ensures { result ≡ decided step (progress_of here.entry) view (counted_of frame.entry) }
+    ensures { result ≡ decided (step_of step) (progress_of here.entry) view (counted_of frame.entry) }
 {
-    match step {
+    match Step::of(step) {
         Step::Idle => obey::command_frame(view, frame),
         Step::WriteData => write_frame(here, view, frame),
         Step::EraseList => erase_frame(here, view, frame),

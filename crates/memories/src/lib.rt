@@ -7,7 +7,7 @@ ghost use Rattle.std.specs.Prelude.{◌≡◌, T};
 ghost use Rattle.board.specs.Usd.{protection_on};
 ghost use Rattle.board.specs.View.{view_of};
 ghost use Rattle.memories.specs.Lent.{holds, shows};
-ghost use Rattle.memories.specs.Memories.{proper};
+ghost use Rattle.memories.specs.Memories.{lengths_right, proper};
 ghost use Rattle.memories.specs.Effects.{no_bytes};
 
 use board::{Board, Region, View};
@@ -66,9 +66,7 @@ impl Lent<'_> {
     pub fn lengths_right(&self) -> bool
         ensures { result ≡ proper (holds self.now) }
     {
-        (self.flash.len() == Board::FLASH_BYTES)
-            & (self.sram.len() == Board::SRAM_BYTES)
-            & (self.usd.len() == Board::USD_BYTES)
+        lengths_right(self.flash.len(), self.sram.len(), self.usd.len())
     }
 
     // Whether protection is on.
@@ -86,6 +84,13 @@ impl Lent<'_> {
     {
         View::of(self.usd)
     }
+}
+
+// Whether flash, SRAM and user system data of these lengths have their lengths.
+pub fn lengths_right(flash: usize, sram: usize, usd: usize) -> bool
+    ensures { result ≡ lengths_right flash sram usd }
+{
+    (flash == Board::FLASH_BYTES) & (sram == Board::SRAM_BYTES) & (usd == Board::USD_BYTES)
 }
 
 // Staged bytes that are all 0.

@@ -12,7 +12,7 @@ ghost use Rattle.memories.specs.Effects.{staged_bytes};
 ghost use Rattle.command.specs.Decision.{if◌gives◌else◌, answer};
 ghost use Rattle.command.specs.declared.Next.TheVariants.{Gather};
 ghost use Rattle.command.specs.declared.FixedReply.TheVariants.{Silence};
-ghost use Rattle.uart.specs.Steps.{expects, complemented_byte, one_byte, expected_for, expected_for_numbers};
+ghost use Rattle.uart.specs.Steps.{step_of, expects, complemented_byte, one_byte, expected_for, expected_for_numbers};
 ghost use Rattle.uart.specs.Conversation.{awaits, selected, read_ends, selector_ends, protect_ends, crc_ends, complete};
 
 use board::{Address, Sector, View};
@@ -201,15 +201,15 @@ fn complete(step: Step, here: SoFar<'_>, view: View) -> Decision
 }
 
 // What one more byte decides: it is gathered, or ends its step.
-pub fn heard(step: Step, here: SoFar<'_>, view: View) -> Decision
-    requires { (here.taken < here.expected) × T (expects step here.expected) × (length here.staged.now ≡ staged_bytes) }
+pub fn heard(step: u8, here: SoFar<'_>, view: View) -> Decision
+    requires { (here.taken < here.expected) × T (expects (step_of step) here.expected) × (length here.staged.now ≡ staged_bytes) }
     ensures { result ≡ (if ltb (here.entry.taken + 1) here.entry.expected gives answer Silence Gather
-        else complete step here.entry.expected here.entry.address here.entry.staged.now view) }
+        else complete (step_of step) here.entry.expected here.entry.address here.entry.staged.now view) }
 {
     let more = here.taken + 1 < here.expected;
     if more {
         command::answer(FixedReply::Silence, Next::Gather)
     } else {
-        complete(step, here, view)
+        complete(Step::of(step), here, view)
     }
 }

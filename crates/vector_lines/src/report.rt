@@ -2,7 +2,7 @@
 ghost use Rattle.std.specs.Prelude.{◌≡◌, ◌+◌, ◌*◌, ◌≤◌, ◌<◌, length};
 ghost use Rattle.words.specs.Hex.{field_characters};
 ghost use Rattle.numbers.specs.Numbers.{short_bytes};
-ghost use Rattle.vector_lines.specs.Sizes.{session_bytes, reply_room, line_room};
+ghost use Rattle.vector_lines.specs.Sizes.{call_bytes, session_bytes, lent_bytes, reply_room, line_room};
 
 use crate::FIELDS;
 use boot::{Session, Taken};
@@ -32,20 +32,19 @@ fn digest(bytes: &[u8]) -> u32 {
     (high << SUM_BITS) | low
 }
 
-// The line of an answer as far as it is printed; its LF has room behind that.
+// The line of an answer as far as it is printed, in a room that is lent; its LF has room behind that.
 #[derive(Drop)]
-struct Line {
-    text: [u8; ROOM],
+struct Line<'a> {
+    text: &'a mut [u8; ROOM],
     end: usize,
     ghost room: { end < line_room },
 }
 
-impl Line {
+impl<'a> Line<'a> {
     // A line that is begun.
-    fn begun() -> Line
+    fn begun(text: &'a mut [u8; ROOM]) -> Line<'a>
         ensures { result.end ≡ 1 }
     {
-        let mut text = io::large_buffer();
         text[0] = ANSWERED;
         Line { text, end: FIELDS }
     }
@@ -55,7 +54,9 @@ impl Line {
         requires { self.old.end + length told.now * field_characters < line_room }
         ensures { self.new.end ≡ self.old.end + length told.now * field_characters }
     {
-        self.end = desk_print::bytes(told, &mut self.text, self.end);
+        let at = self.end;
+        let text = &mut *self.text;
+        self.end = desk_print::bytes(told, text, at);
     }
 
     // Prints the digest of some bytes.
@@ -77,27 +78,45 @@ impl Line {
         self.digest(&next.staged);
     }
 
+    // Prints the numbers of a call: its cause, the reason of a NACK and its place, the length of the reply.
+    fn numbers(&mut self, taken: Taken)
+        requires { self.old.end + call_bytes * field_characters < line_room }
+        ensures { self.new.end ≡ self.old.end + call_bytes * field_characters }
+    {
+        self.bytes(&[taken.number, taken.reason]);
+        self.bytes(&taken.place.to_be_bytes());
+        self.bytes(&taken.length.to_be_bytes());
+    }
+
+    // Prints the digests of what was lent.
+    fn digests(&mut self, shown: Shown<'_>, buffer: &[u8])
+        requires { self.old.end + lent_bytes * field_characters < line_room }
+        ensures { self.new.end ≡ self.old.end + lent_bytes * field_characters }
+    {
+        self.digest(shown.flash);
+        self.digest(shown.sram);
+        self.digest(shown.usd);
+        self.digest(buffer);
+    }
+
     // Ends the line and writes it.
-    fn write<W: Write>(mut self, to: &mut W) -> std::io::Result<()> {
-        self.text[self.end] = LINE_FEED;
-        to.write_all(&self.text[..self.end + 1])
+    fn write<W: Write>(self, to: &mut W) -> std::io::Result<()> {
+        let end = self.end;
+        let text = self.text;
+        text[end] = LINE_FEED;
+        to.write_all(&text[..end + 1])
     }
 }
 
 // The line that says what a call left: its cause, the reason of a NACK and its place, the reply, the session, and digests of what was lent.
-fn answer(taken: Taken, shown: Shown<'_>, buffer: &[u8]) -> Line
+fn answer<'a>(text: &'a mut [u8; ROOM], taken: Taken, shown: Shown<'_>, buffer: &[u8]) -> Line<'a>
     requires { length buffer.now ≤ reply_room }
 {
-    let mut line = Line::begun();
-    line.bytes(&[taken.number, taken.reason]);
-    line.bytes(&taken.place.to_be_bytes());
-    line.bytes(&taken.length.to_be_bytes());
+    let mut line = Line::begun(text);
+    line.numbers(taken);
     line.bytes(&buffer[..taken.length.min(buffer.len())]);
     line.session(taken.session);
-    line.digest(shown.flash);
-    line.digest(shown.sram);
-    line.digest(shown.usd);
-    line.digest(buffer);
+    line.digests(shown, buffer);
     line
 }
 
@@ -110,5 +129,6 @@ pub fn report<W: Write>(
 ) -> std::io::Result<()>
     requires { length buffer.now ≤ reply_room }
 {
-    answer(taken, shown, buffer).write(to)
+    let mut text = io::large_buffer();
+    answer(&mut text, taken, shown, buffer).write(to)
 }

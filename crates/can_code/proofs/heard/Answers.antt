@@ -4,4 +4,4 @@ use Rattle.can_code.proofs.heard.Goals as goal
 
 pub returns-in-ProtectList : goal.returns-in-ProtectList
 unfolding gathering unless_extra decided
-returns-in-ProtectList c = rw (c.in-ProtectList.is) (c.protect_frame.ensures c.args.view)
+returns-in-ProtectList c = rw (← c.in-ProtectList.ensures) (c.protect_frame.ensures c.args.view)

@@ -19,9 +19,10 @@ use Rattle.boot.proofs.Session.decide_byte.Goals as goal
 
 pub heard-requires : goal.heard-requires
 heard-requires c =
-    subst (λ (p : Progress). (p.taken < p.expected) × T (U.expects c.of.result p.expected) × (length p.staged ≡ 257)) (sym c.so_far.ensures) (
+    subst (λ (p : Progress). (p.taken < p.expected) × T (U.expects (U.step_of c.args.self.step) p.expected) × (length p.staged ≡ 257))
+    (sym c.so_far.ensures) (
       sound_taken c.args.self c.requires.0,
-      rw (c.of.ensures) (uart_expects c.args.self c.requires.0 (rw (← c.on-here.ensures, c.if-here.true) tt)),
+      uart_expects c.args.self c.requires.0 (rw (← c.on-here.ensures, c.if-here.true) tt),
       omega arith,
     )
 
@@ -29,10 +30,10 @@ pub returns-then-here : goal.returns-then-here
 unfolding decide_byte connected UC.heard if◌gives◌else◌
 returns-then-here c =
     let hears : Progress → Decision = λ p. if ltb (p.taken + 1) p.expected gives answer Silence Gather
-    else UC.complete c.of.result p.expected p.address p.staged c.args.view in
+    else UC.complete (U.step_of c.args.self.step) p.expected p.address p.staged c.args.view in
     let h : c.heard.result ≡ hears _ = c.heard.ensures ∙ ap hears c.so_far.ensures in
     let e : c.heard.result ≡ decide_byte c.args.self c.args.view c.args.byte =
-    rw (← c.on-here.ensures, c.if-here.true, ← ap (λ (s : Session). s.staged) c.requires.1, ← c.of.ensures) h in
+    rw (← c.on-here.ensures, c.if-here.true, ← ap (λ (s : Session). s.staged) c.requires.1) h in
     let g = byte_can c.args.byte c.args.self c.args.view c.requires.1 e c.requires.0 c.requires.2 in
     (e, g.0, g.1)
 

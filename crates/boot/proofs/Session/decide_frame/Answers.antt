@@ -19,10 +19,11 @@ use Rattle.boot.proofs.Session.decide_frame.Goals as goal
 pub heard-requires : goal.heard-requires
 heard-requires c =
     subst
-    (λ (p : Progress). (p.taken < p.expected) × T (C.expects c.of.result p.expected) × (length p.staged ≡ 257) × (length c.args.frame.carried.now ≤ 8))
+    (λ (p : Progress). (p.taken < p.expected) × T (C.expects (C.step_of c.args.self.step) p.expected)
+    × (length p.staged ≡ 257) × (length c.args.frame.carried.now ≤ 8))
     (sym c.so_far.ensures) (
       sound_taken c.args.self c.requires.0,
-      rw (c.of.ensures) (can_expects c.args.self c.requires.0 (rw (← c.on-here.ensures, c.if-here.true) tt)),
+      can_expects c.args.self c.requires.0 (rw (← c.on-here.ensures, c.if-here.true) tt),
       omega arith,
       c.requires.2,
     )
@@ -30,14 +31,14 @@ heard-requires c =
 pub returns-then-here : goal.returns-then-here
 unfolding decide_frame connected CC.heard if◌gives◌else◌
 returns-then-here c =
-    let h = c.heard.ensures ∙ ap (λ (p : Progress). CC.decided c.of.result p c.args.view (counted_of c.args.frame)) c.so_far.ensures in
+    let h =
+    c.heard.ensures ∙ ap (λ (p : Progress). CC.decided (C.step_of c.args.self.step) p c.args.view (counted_of c.args.frame)) c.so_far.ensures in
     let e : c.heard.result ≡ decide_frame c.args.self c.args.view (counted_of c.args.frame) =
     rw (
       ← c.on-here.ensures,
       c.if-here.true,
       take-length c.args.frame.carried.now,
       ← ap (λ (s : Session). s.staged) c.requires.1,
-      ← c.of.ensures,
     ) h in
     let g =
     frame_can c.args.frame.id c.args.frame.carried.now c.args.self c.args.view c.requires.1 e
