@@ -1,4 +1,4 @@
--- The verdict on a line that is not bad, by the tests that lead to it.
+-- The verdict on a line, by the tests that lead to it.
 use mathlib.Core.Path.{◌≡◌, refl, ap}
 use mathlib.Core.Bool.{Bool, true, false, not}
 use mathlib.Core.List.{List}
@@ -7,21 +7,21 @@ use lib.IntN.{ℤ}
 use Rattle.std.specs.Prelude.{Option, Some, None, Result, Err}
 use Rattle.records.specs.declared.Line.{Line}
 use Rattle.loading.specs.Places.{place_of}
-use Rattle.loading.specs.Loads.{verdict_at, verdict_of, ends_by}
+use Rattle.loading.specs.Loads.{verdict_at, verdict_of}
 use Rattle.loading.specs.declared.Cause.{Cause}
 use Rattle.loading.specs.declared.Cause.TheVariants.{BadLine, BadChecksum}
 
--- a line that says nothing is bad
-pub bad_line_lem : (shift : ℤ) (ended : Bool) (touched : List ℕ) → Err BadLine ≡ ends_by (verdict_of shift ended touched None) None
+-- a line that says nothing is bad, and so is any line behind the ending record
+pub bad_line_lem : (shift : ℤ) (ended : Bool) (touched : List ℕ) → Err BadLine ≡ verdict_of shift ended touched None
 unfolding verdict_of
 bad_line_lem shift true touched = refl
 bad_line_lem shift false touched = refl
 
-module _ (shift : ℤ) (ended : Bool) (touched : List ℕ) (x : Line) where
-  pub behind_the_end : ended ≡ true → Err BadLine ≡ verdict_of shift ended touched (Some x)
-  unfolding verdict_of
-  behind_the_end t = rw t refl
+pub behind_the_end : (shift : ℤ) (ended : Bool) (touched : List ℕ) (o : Option Line) → ended ≡ true → Err BadLine ≡ verdict_of shift ended touched o
+unfolding verdict_of
+behind_the_end shift ended touched o t = rw t refl
 
+module _ (shift : ℤ) (ended : Bool) (touched : List ℕ) (x : Line) where
   pub bad_checksum : ended ≡ false → x.right ≡ false → Err BadChecksum ≡ verdict_of shift ended touched (Some x)
   unfolding verdict_of
   bad_checksum t s = rw (t, s) refl

@@ -15,6 +15,11 @@ use Rattle.loading.specs.Places.{bytes, is_data, place_at, in_flash, place_of}
 use Rattle.loading.specs.declared.Cause.{Cause}
 use Rattle.loading.specs.declared.Cause.TheVariants.{OutsideFlash}
 
+-- a bad line has no place
+pub nowhere : (shift : ℤ) → Ok None ≡ place_of shift None
+unfolding place_of
+nowhere shift = refl
+
 -- a line's place, by the test that the code makes
 module _ (shift : ℤ) (x : Line) where
   pub placed : (is_data x.kind && ltb 0 x.bytes) ≡ true → in_flash (place_at (pos x.address +ℤ shift) x.bytes) ≡ place_of shift (Some x)
@@ -74,3 +79,12 @@ good_line l x e = by_test (is_good l) refl e
     by_test : (t : Bool) → is_good l ≡ t → line_of l ≡ Some x → T t
     by_test true g r = tt
     by_test false g r = absurd (let z : ◌≡◌ {A = ℕ} 0 1 = (let q = rw g at r in cc) in omega arith)
+
+-- and so is one that has a place in flash
+pub good_placed : (shift : ℤ) (l : List ℕ) (at : ℕ) → place_of shift (line_of l) ≡ Ok (Some at) → T (is_good l)
+unfolding place_of
+good_placed shift l at e = by_line (line_of l) refl e
+  where
+    by_line : (o : Option Line) → line_of l ≡ o → place_of shift o ≡ Ok (Some at) → T (is_good l)
+    by_line (Some x) p q = good_line l x p
+    by_line None p q = absurd (let z : ◌≡◌ {A = ℕ} 0 1 = cc in omega arith)

@@ -21,13 +21,11 @@ fn take(
     ensures marks { IfOk result (λ _. touched.new ≡ touched_by shift (line_of line.now) touched.old) }
     ensures image { IfOk result (λ _. image.new ≡ loaded_by shift line.now image.old) }
 {
-    let Some(read) = reading::read(line) else {
-        return Err(Cause::BadLine);
-    };
+    let read = reading::read(line);
     judging::judge(read, shift, ended, touched)?;
     judging::touch(read, shift, touched);
     laying::lay(line, read, shift, image);
-    Ok(judging::is_end(read.kind))
+    Ok(judging::is_end(read.map(|said| said.kind)))
 }
 
 // Judges, marks and lays line by line; the first faulty one decides, else whether there was an ending record.

@@ -19,9 +19,9 @@ fn decode(digits: &[u8], image: &mut [u8], at: usize)
     }
 }
 
-// Puts a line's data into an image, by what was read of the line.
-pub fn lay(line: &[u8], read: Line, shift: i16, image: &mut [u8])
-    requires { (line_of line.now ≡ Some read) × (length image.old ≡ flash.bytes) }
+// Puts a line's data into an image, by what was read of the line; a bad line has none.
+pub fn lay(line: &[u8], read: Option<Line>, shift: i16, image: &mut [u8])
+    requires { (read ≡ line_of line.now) × (length image.old ≡ flash.bytes) }
     ensures { image.new ≡ loaded_by shift line.now image.old }
 {
     match placing::place(read, shift) {

@@ -35,10 +35,11 @@ fn place_at(address: i64, n: usize) -> Option<usize>
     if offset <= room { Some(offset) } else { None }
 }
 
-// Where a line's data go; a record without data goes nowhere.
-pub fn place(read: Line, shift: i16) -> Result<Option<usize>, Cause>
-    ensures { result ≡ place_of shift (Some read) }
+// Where a line's data go; a record without data goes nowhere, nor does a bad line.
+pub fn place(read: Option<Line>, shift: i16) -> Result<Option<usize>, Cause>
+    ensures { result ≡ place_of shift read }
 {
+    let Some(read) = read else { return Ok(None) };
     let n = read.bytes;
     let loads = is_data(read.kind) & (0 < n);
     if !loads {

@@ -10,7 +10,7 @@ use lib.ListN.{length, get_or, take, drop}
 use lib.Seq.{drop-cons, drop-length, drop-nil, take-nil}
 use borrow.Author.Tests.{leb-true, le-leb, lt-leb}
 use lib.Dec.{eqb}
-use Rattle.std.specs.List.{list_all}
+use Rattle.std.specs.List.{fold, list_all}
 use Rattle.words.specs.Lists.{all}
 use Rattle.words.proofs.Tests.{both_left, both_right, holds_true}
 use Rattle.records.specs.Digits.{is_digit, value_of, are_pairs, bytes_in}
@@ -45,6 +45,13 @@ pair_first s i h =
 pub same_all : (f : ℕ → Bool) (l : List ℕ) → list_all f l ≡ all f l
 same_all f [] = refl
 same_all f (x ∷ l) = ap (λ b. f x && b) (same_all f l)
+
+-- so is a test of each, with what the test of those before it gave
+pub all_along : (f : ℕ → Bool) (good : Bool) (l : List ℕ) → fold (λ g x. g && f x) good l ≡ (good && all f l)
+all_along f true [] = refl
+all_along f false [] = refl
+all_along f true (x ∷ l) = all_along f (f x) l
+all_along f false (x ∷ l) = all_along f false l
 
 -- characters are pairs where they are even in number and all of them are digits
 pub pairs_all : (l : List ℕ) → (eqb (length l % 2) 0 && all is_digit l) ≡ are_pairs l

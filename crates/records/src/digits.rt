@@ -7,7 +7,7 @@ ghost use Rattle.records.specs.Records.{sum};
 fn is_digit(c: u8) -> bool
     ensures { result ≡ is_digit c }
 {
-    matches!(c, b'0'..=b'9' | b'A'..=b'F' | b'a'..=b'f')
+    ((b'0' <= c) & (c <= b'9')) | ((b'A' <= c) & (c <= b'F')) | ((b'a' <= c) & (c <= b'f'))
 }
 
 // The value of a hex digit: what its low four bits count, and nine more for a letter, whose code is 64 or more.
@@ -23,7 +23,7 @@ pub fn are_pairs(digits: &[u8]) -> bool
     ensures { result ≡ are_pairs digits.now }
 {
     let even = digits.len() % 2 == 0;
-    even && digits.iter().all(|c| is_digit(*c))
+    digits.iter().fold(even, |good, c| good & is_digit(*c))
 }
 
 // Byte i of those that pairs write.
