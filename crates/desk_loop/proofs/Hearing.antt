@@ -2,10 +2,11 @@
 use mathlib.Core.Path.{◌≡◌, refl, sym, ap, ◌∙◌}
 use mathlib.Core.Bool.{Bool}
 use mathlib.Core.List.{List, [], ◌++◌}
-use Prim.Native.Nat.{ℕ, ◌≤◌}
+use Prim.Native.Nat.{ℕ, ◌+◌, ◌≤◌}
+use native.Mathlib.Omega.{arith}
 use lib.Dec.{ltb}
 use Rattle.std.specs.Prelude.{Result, IfOk}
-use lib.ListN.{length}
+use lib.ListN.{length, length-append}
 use Rattle.words.specs.Over.{put}
 use Rattle.keeping.specs.declared.Untold.{Untold}
 use Rattle.memories.specs.Memories.{Memories}
@@ -16,7 +17,7 @@ use Rattle.desk_answers.specs.Desk.{Desk, hears, input_ends}
 use Rattle.desk_answers.specs.Promise.{Tells}
 use Rattle.desk_answers.proofs.Whole.{hears_parts}
 use Rattle.desk_hearing.specs.Promise.{desk_of}
-use Rattle.desk_loop.specs.Turns.{read_characters, Turns, desk_at, HasHeard, LeftBy}
+use Rattle.desk_loop.specs.Turns.{read_characters, most_characters, Turns, desk_at, HasHeard, LeftBy}
 
 -- a desk that sits down at a board, just powered
 pub sits_down : (why : Bool) (s : Session) (line : List ℕ) (m : Memories) → s ≡ fresh
@@ -25,9 +26,9 @@ sits_down why s line m e =
     ap (λ (t : Session). record { why = why; state = record { session = t; memories = m }; lines = 0; line = [] }) e
 
 -- a desk that has heard nothing
-pub nothing_heard : (d : Desk) → HasHeard d d
+pub nothing_heard : (d : Desk) → HasHeard 0 d d
 unfolding hears
-nothing_heard d = record { text = []; desk = refl }
+nothing_heard d = record { text = []; few = omega arith; desk = refl }
 
 -- a text that was read and heard
 pub turned : (text : List ℕ) {before after : Desk} {at until : ℕ} {lent left : List ℕ} {going : Result Bool Untold} → length text ≤ read_characters → at ≡ 0
@@ -41,17 +42,21 @@ turned text {before} {lent = lent} few e more t = record {
 }
 
 -- one turn more
-pub one_more : {b d e : Desk} {lent left : List ℕ} {going : Result Bool Untold} → HasHeard b d → Turns d lent e left going → HasHeard b e
-one_more {b} h t = record {
+pub one_more : {n m : ℕ} {b d e : Desk} {lent left : List ℕ} {going : Result Bool Untold} → n + read_characters ≤ m → HasHeard n b d
+    → Turns d lent e left going → HasHeard m b e
+one_more {b = b} fits h t = record {
   text = h.text ++ t.text;
+  few = let l = length-append h.text t.text in omega (arith, l, h.few, t.few, fits);
   desk =
       t.desk ∙ ap (λ (x : Desk). (hears t.text x).state) h.desk
       ∙ sym (ap (λ (r : Told Desk). r.state) (hears_parts h.text t.text b));
 }
 
 -- the end of the input
-pub gets_up : {why : Bool} {m : Memories} {b d e : Desk} → b ≡ desk_at why m → HasHeard b d → e ≡ (input_ends d).state → LeftBy why m e
+pub gets_up : {why : Bool} {m : Memories} {b d e : Desk} → b ≡ desk_at why m → HasHeard most_characters b d → e ≡ (input_ends d).state
+    → LeftBy why m e
 gets_up s h p = record {
   text = h.text;
+  few = h.few;
   desk = p ∙ ap (λ (x : Desk). (input_ends x).state) (h.desk ∙ ap (λ (x : Desk). (hears h.text x).state) s);
 }

@@ -1,5 +1,5 @@
 -- What is so between two reads, and what some text that was read has left.
-use Rattle.std.specs.Prelude.{ℕ, ◌+◌, ◌*◌, ◌≤◌, ◌≡◌, Bool, List, [], Result, IfOk, ltb, length}
+use Rattle.std.specs.Prelude.{ℕ, ◌+◌, ◌*◌, ◌^◌, ◌≤◌, ◌≡◌, Bool, List, [], Result, IfOk, ltb, length}
 use Rattle.words.specs.Over.{put}
 use Rattle.memories.specs.Memories.{Memories}
 use Rattle.boot.specs.Calls.{powered}
@@ -17,6 +17,10 @@ read_characters = 4096
 -- the room for what one read makes it print, whatever it is
 abbrev pub out_characters : ℕ
 out_characters = character_room * (kept_characters + read_characters)
+
+-- the most characters that all reads bring
+abbrev pub most_characters : ℕ
+most_characters = 2 ^ 63
 
 -- there is room for the line that has begun and for the answers, and none is left unwritten
 pub record Ready (d : Desk) (line out : List ℕ) : Type 0 where
@@ -38,12 +42,14 @@ pub record Turns (before : D.Desk) (lent : List ℕ) (after : D.Desk) (left : Li
 abbrev pub desk_at : Bool → Memories → D.Desk
 desk_at why m = record { why = why; state = powered m; lines = 0; line = [] }
 
--- a desk is what another becomes by some text
-pub record HasHeard (before d : D.Desk) : Type 0 where
+-- a desk is what another becomes by some text of at most so many characters
+pub record HasHeard (most : ℕ) (before d : D.Desk) : Type 0 where
   pub text : List ℕ
+  pub few : length text ≤ most
   pub desk : d ≡ (hears text before).state
 
 -- a desk, asked for reasons or not, is what a board that began with these memories, just powered, becomes by some text and the end of the input
 pub record LeftBy (why : Bool) (m : Memories) (d : D.Desk) : Type 0 where
   pub text : List ℕ
+  pub few : length text ≤ most_characters
   pub desk : d ≡ (hears text (desk_at why m) then input_ends).state

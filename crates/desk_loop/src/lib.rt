@@ -8,14 +8,14 @@ ghost use Rattle.memories.specs.Memories.{proper};
 ghost use Rattle.keeping.specs.Kept.{Fits, Kept, Begins};
 ghost use Rattle.desk_answers.specs.Desk.{kept_characters, input_ends};
 ghost use Rattle.desk_hearing.specs.Promise.{desk_of};
-ghost use Rattle.desk_loop.specs.Turns.{read_characters, out_characters, Ready, Turns, HasHeard, LeftBy};
+ghost use Rattle.desk_loop.specs.Turns.{read_characters, out_characters, most_characters, Ready, Turns, HasHeard, LeftBy};
 
 use boot::Session;
 use desk_answers::CHARACTER_ROOM;
 use desk_hearing::{Desk, KEPT_CHARACTERS, finish, hear};
 use files::system::System;
 use keeping::room::MEMORIES_BYTES;
-use keeping::turns::MOST;
+use keeping::turns::{MOST, left};
 use keeping::{Untold, begin, fresh, tell};
 use memories::Lent;
 use std::io::{Read, Write};
@@ -34,6 +34,7 @@ pub fn asks_why(argument: &[u8]) -> bool
 }
 
 // Room for the answers, of which only its length counts.
+// Kept: of words::zeros at this length the check of `run` unfolds a million zeros, and does not end (c).
 fn room() -> [u8; OUT_CHARACTERS]
     ensures { out_characters ≡ length result }
 {
@@ -69,7 +70,7 @@ fn turn<R: System, F: Read, W: Write>(
     *desk = hear(*desk, &input[..n], line, lent, out);
     let end = desk.end;
     desk.end = 0;
-    tell(rt, name, lent.shown(), kept, to, &out[..end])?;
+    tell(rt, Ok(()), name, lent.shown(), kept, to, &out[..end])?;
     Ok(0 < n)
 }
 
@@ -91,16 +92,15 @@ fn read_on<R: System, F: Read, W: Write>(
     requires kept_2 { Kept name.now (holds lent.old) kept.old }
     ensures ready { Ready desk.new line.new out.new }
     ensures few { desk.new.lines ≤ 2 ^ 63 }
-    ensures heard { HasHeard (desk_of desk.old line.old (had lent)) (desk_of desk.new line.new (has lent)) }
+    ensures heard { HasHeard most_characters (desk_of desk.old line.old (had lent)) (desk_of desk.new line.new (has lent)) }
     ensures lengths { T (proper (has lent)) }
     ensures kept { OnOk result (Kept name.now (has lent) kept.new) }
     ensures same { Same lent }
 {
-    for _ in 0..MOST {
+    let mut turns = MOST;
+    while 0 < turns {
         let more = turn(rt, desk, name, from, to, line, lent, out, kept)?;
-        if !more {
-            return Ok(());
-        }
+        turns = left(turns, more);
     }
     Ok(())
 }
@@ -128,8 +128,7 @@ fn get_up<R: System, W: Write>(
     ensures same { Same lent }
 {
     *desk = finish(*desk, line, lent, out);
-    told?;
-    tell(rt, name, lent.shown(), kept, to, &out[..desk.end])
+    tell(rt, told, name, lent.shown(), kept, to, &out[..desk.end])
 }
 
 // Reads until the input ends, answers a last line that has no LF, and hands back the desk that is left; where something could not be kept or written,
@@ -184,11 +183,6 @@ pub fn run<R: System, F: Read, W: Write>(rt: &R, why: bool, name: &[u8], from: &
     }
     let mut line = [0u8; KEPT_CHARACTERS];
     let mut out = room();
-    let mut lent = Lent {
-        flash: &mut flash,
-        sram: &mut sram,
-        usd: &mut usd,
-    };
     let _ = sit(
         rt, why, name, from, to, &mut line, &mut lent, &mut out, &mut kept,
     );

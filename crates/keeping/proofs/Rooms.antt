@@ -106,6 +106,10 @@ module _ (room : List ℕ) (e : length room ≡ memories_bytes) where
 pub parts_held : (m : Memories) (room : List ℕ) → length room ≡ memories_bytes → m ≡ memories_in room → room ≡ in_bytes m
 parts_held m room e p = sym (bytes_back room e) ∙ ap in_bytes (sym p)
 
+-- memories that came back from so many bytes have their lengths
+pub proper_back : {m : Memories} (room : List ℕ) → length room ≡ memories_bytes → m ≡ memories_in room → T (proper m)
+proper_back room e p = subst (λ (n : Memories). T (proper n)) (sym p) (are_proper _ (lengths_in room e))
+
 -- ---- the code's steps
 
 -- user system data reaches to the end of a room

@@ -7,9 +7,10 @@ pub mod held;
 pub mod room;
 pub mod turns;
 
-ghost use Rattle.std.specs.Prelude.{◌≡◌, ◌↔◌, true, false, length, ◌+◌, IsOk, OnOk, OnErr};
+ghost use Rattle.std.specs.Prelude.{◌≡◌, ◌↔◌, true, false, T, length, ◌+◌, IsOk, IsErr, OnOk, OnErr};
 ghost use Rattle.std.specs.Io.KnownBytes.{Appends};
 ghost use Rattle.memories.specs.Lent.{holds, had, has, Same, shows};
+ghost use Rattle.memories.specs.Memories.{proper};
 ghost use Rattle.keeping.specs.declared.Untold.TheVariants.{Unkept};
 ghost use Rattle.keeping.specs.Kept.{memories_bytes, in_bytes, memories_in, named, Fits, Kept};
 
@@ -87,6 +88,7 @@ fn make<R: System>(
 }
 
 // Brings the memories back that some bytes are, and takes these down, if memories are so many bytes.
+#[tactic(auto, using(crate::proofs::Rooms::proper_fit))]
 fn restore(bytes: &[u8], lent: &mut Lent<'_>, kept: &mut [u8]) -> Result<(), WrongLength>
     requires { Fits (holds lent.old) kept.old }
     ensures all { IsOk result ↔ (length bytes.now ≡ memories_bytes) }
@@ -95,6 +97,7 @@ fn restore(bytes: &[u8], lent: &mut Lent<'_>, kept: &mut [u8]) -> Result<(), Wro
     ensures taken { OnOk result (kept.new ≡ in_bytes (has lent)) }
     ensures refused { OnErr result (has lent ≡ had lent) }
     ensures unkept { OnErr result (kept.new ≡ kept.old) }
+    ensures lengths { T (proper (has lent)) }
     ensures same { Same lent }
 {
     if bytes.len() != MEMORIES_BYTES {
@@ -106,11 +109,13 @@ fn restore(bytes: &[u8], lent: &mut Lent<'_>, kept: &mut [u8]) -> Result<(), Wro
 }
 
 // Brings the memories back that the file of a name holds, or says why it cannot.
+#[tactic(auto, using(crate::proofs::Rooms::proper_fit))]
 fn go_on<R: System>(rt: &R, name: &[u8], lent: &mut Lent<'_>, kept: &mut [u8]) -> Result<(), Said>
     requires { Fits (holds lent.old) kept.old }
     ensures kept { OnOk result (kept.new ≡ in_bytes (has lent)) }
     ensures refused { OnErr result (has lent ≡ had lent) }
     ensures unkept { OnErr result (kept.new ≡ kept.old) }
+    ensures lengths { T (proper (has lent)) }
     ensures same { Same lent }
 {
     let mut bytes = words::zeros::<FILE_ROOM>();
@@ -123,6 +128,7 @@ fn go_on<R: System>(rt: &R, name: &[u8], lent: &mut Lent<'_>, kept: &mut [u8]) -
 
 // Begins with a board: without a name with the memories as they are lent; else with those that the file of that name holds, which is made of
 // the lent ones where it is missing. Where the board may not begin, it is said why not.
+#[tactic(auto, using(crate::proofs::Rooms::proper_fit))]
 pub fn begin<R: System>(
     rt: &R,
     name: &[u8],
@@ -133,6 +139,7 @@ pub fn begin<R: System>(
     ensures unnamed { named name.now ≡ false → IsOk result × (has lent ≡ had lent) }
     ensures refused { OnErr result (has lent ≡ had lent) }
     ensures kept { OnOk result (Kept name.now (has lent) kept.new) }
+    ensures lengths { T (proper (has lent)) }
     ensures same { Same lent }
 {
     if name.is_empty() {
@@ -178,9 +185,10 @@ fn answer<W: Write>(
     to.write_all(text).map_err(|_| Untold::Unwritten)
 }
 
-// Keeps the memories and then writes what is to be answered.
+// Keeps the memories and then writes what is to be answered, if all before it could be.
 pub fn tell<R: System, W: Write>(
     rt: &R,
+    told: Result<(), Untold>,
     name: &[u8],
     shown: Shown<'_>,
     kept: &mut [u8],
@@ -188,9 +196,12 @@ pub fn tell<R: System, W: Write>(
     text: &[u8],
 ) -> Result<(), Untold>
     requires { Fits (shows shown) kept.old }
+    ensures untold { OnErr told (IsErr result) }
+    ensures unwritten { OnErr told (W.contents to.new ≡ W.contents to.old) }
     ensures kept { OnOk result (Kept name.now (shows shown.entry) kept.new) }
     ensures written { OnOk result (Appends (W.contents to.old) (W.contents to.new) text.now) }
 {
+    told?;
     keep(rt, name, shown, kept)?;
     answer(name, shown, kept, to, text)
 }

@@ -7,7 +7,7 @@ use Rattle.keeping.proofs.Rooms.{lengths_fit, each_held}
 use Rattle.keeping.proofs.room.is_held.Goals as goal
 
 pub slice_bounds-same-end : goal.slice_bounds-same-end
-slice_bounds-same-end c = omega (arith, length-take-le 32768 c.args.room.now (omega (arith, c.requires.room)))
+slice_bounds-same-end c = omega (arith, c.requires.room, length-take-le 32768 c.args.room.now (omega (arith, c.requires.room)))
 
 pub slice_bounds-same-end-2 : goal.slice_bounds-same-end-2
 slice_bounds-same-end-2 c = omega (arith, length-take-le 32768 c.args.room.now (omega (arith, c.requires.room)))
