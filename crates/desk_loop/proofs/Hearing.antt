@@ -42,9 +42,9 @@ turned text {before} {lent = lent} few e more t = record {
 }
 
 -- one turn more
-pub one_more : {n m : ℕ} {b d e : Desk} {lent left : List ℕ} {going : Result Bool Untold} → n + read_characters ≤ m → HasHeard n b d
-    → Turns d lent e left going → HasHeard m b e
-one_more {b = b} fits h t = record {
+pub one_more : {n m : ℕ} {b d e : Desk} {lent left : List ℕ} {going : Result Bool Untold} → HasHeard n b d → Turns d lent e left going
+    → n + read_characters ≤ m → HasHeard m b e
+one_more {b = b} h t fits = record {
   text = h.text ++ t.text;
   few = let l = length-append h.text t.text in omega (arith, l, h.few, t.few, fits);
   desk =

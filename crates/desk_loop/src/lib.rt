@@ -6,7 +6,8 @@ ghost use Rattle.words.specs.Texts.{characters};
 ghost use Rattle.memories.specs.Lent.{holds, had, has, Same};
 ghost use Rattle.memories.specs.Memories.{proper};
 ghost use Rattle.keeping.specs.Kept.{Fits, Kept, Begins};
-ghost use Rattle.desk_answers.specs.Desk.{kept_characters, input_ends};
+ghost use Rattle.desk_answers.specs.Desk.{kept_characters, hears, input_ends};
+ghost use Rattle.desk_answers.specs.Promise.{Tells};
 ghost use Rattle.desk_hearing.specs.Promise.{desk_of};
 ghost use Rattle.desk_loop.specs.Turns.{read_characters, out_characters, most_characters, Ready, Turns, HasHeard, LeftBy};
 
@@ -41,6 +42,28 @@ fn room() -> [u8; OUT_CHARACTERS]
     [0; OUT_CHARACTERS]
 }
 
+// Has what came heard, be it nothing, and leaves the memories their lengths.
+fn take_in(
+    desk: Desk,
+    text: &[u8],
+    line: &mut [u8],
+    lent: &mut Lent<'_>,
+    out: &mut [u8],
+) -> Desk
+    requires ready { Ready desk line.old out.old }
+    requires text_len { length text.now ≤ read_characters }
+    requires read_characters_bound { desk.lines + read_characters < 2 ^ 64 }
+    requires lengths { T (proper (holds lent.old)) }
+    ensures told { Tells (hears text.now (desk_of desk line.old (had lent))) desk.end out.old
+        result.end out.new (desk_of result line.new (has lent)) }
+    ensures fits { result.end ≤ length out.old }
+    ensures counts { (result.kept ≤ kept_characters) × (result.lines ≤ desk.lines + length text.now) }
+    ensures lengths { T (proper (has lent)) }
+    ensures same { Same lent }
+{
+    hear(desk, text, line, lent, out)
+}
+
 // Reads once, has what came heard, be it nothing, keeps the memories and then writes the answers: it tells whether there may be more to read.
 fn turn<R: System, F: Read, W: Write>(
     rt: &R,
@@ -67,7 +90,7 @@ fn turn<R: System, F: Read, W: Write>(
 {
     let mut input = [0u8; READ_CHARACTERS];
     let n = files::read_once(from, &mut input);
-    *desk = hear(*desk, &input[..n], line, lent, out);
+    *desk = take_in(*desk, &input[..n], line, lent, out);
     let end = desk.end;
     desk.end = 0;
     tell(rt, Ok(()), name, lent.shown(), kept, to, &out[..end])?;

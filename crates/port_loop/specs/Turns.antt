@@ -1,5 +1,5 @@
 -- What is so between two reads, and what some bytes that were read have left.
-use Rattle.std.specs.Prelude.{ℕ, ◌*◌, ◌≤◌, ◌≡◌, Bool, Result, IfOk, ltb, length}
+use Rattle.std.specs.Prelude.{ℕ, ◌*◌, ◌^◌, ◌≤◌, ◌≡◌, Bool, Result, IfOk, ltb, length}
 use mathlib.Core.List.{List, foldl}
 use Rattle.words.specs.Over.{put}
 use Rattle.memories.specs.Memories.{Memories}
@@ -12,6 +12,10 @@ use Rattle.port_loop.specs.Port.{said_all}
 -- the most bytes that one read brings
 abbrev pub read_bytes : ℕ
 read_bytes = 4096
+
+-- the most reads that are made
+abbrev pub most_reads : ℕ
+most_reads = 2 ^ 51
 
 -- the room for the replies to one read, whatever it is
 abbrev pub out_bytes : ℕ
@@ -36,12 +40,14 @@ pub record Turns (st : Bool) (before after : Sitting) (going : Result Bool Untol
   pub left : after ≡ reading st before bytes
   pub more : IfOk going (λ more. more ≡ ltb 0 (length bytes))
 
--- what read after read has left
-pub record HasHeard (st : Bool) (before after : Sitting) : Type 0 where
+-- what read after read has left, so many at most
+pub record HasHeard (st : Bool) (most : ℕ) (before after : Sitting) : Type 0 where
   pub reads : List (List ℕ)
+  pub few : length reads ≤ most
   pub left : after ≡ foldl (reading st) before reads
 
 -- what read after read has left, of a board that began with these memories, just powered
 pub record LeftBy (st : Bool) (m : Memories) (lent : List ℕ) (after : Sitting) : Type 0 where
   pub reads : List (List ℕ)
+  pub few : length reads ≤ most_reads
   pub left : after ≡ foldl (reading st) (sitting (powered m) lent) reads

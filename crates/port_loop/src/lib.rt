@@ -11,13 +11,14 @@ ghost use Rattle.memories.specs.Lent.{holds, had, has, Same};
 ghost use Rattle.memories.specs.Memories.{proper};
 ghost use Rattle.keeping.specs.Kept.{Fits, Kept, Begins};
 ghost use Rattle.boot.specs.Promise.{state_of};
-ghost use Rattle.port_loop.specs.Turns.{out_bytes, sitting, Turns, HasHeard, LeftBy};
+ghost use Rattle.port_loop.specs.Port.{Hears};
+ghost use Rattle.port_loop.specs.Turns.{read_bytes, out_bytes, most_reads, sitting, Turns, HasHeard, LeftBy};
 
 use boot::Session;
 use files::system::System;
-use hearing::hear;
+use hearing::{Heard, hear};
 use keeping::room::MEMORIES_BYTES;
-use keeping::turns::MOST;
+use keeping::turns::{MOST, left};
 use keeping::{Untold, begin, fresh, tell};
 use memories::Lent;
 use std::io::{Read, Write};
@@ -43,6 +44,26 @@ fn room() -> [u8; OUT_BYTES]
     [0; OUT_BYTES]
 }
 
+// Has what came heard, be it nothing, and leaves the memories their lengths.
+fn take_in(
+    session: Session,
+    st: bool,
+    bytes: &[u8],
+    lent: &mut Lent<'_>,
+    out: &mut [u8],
+) -> Heard
+    requires bytes_len { length bytes.now ≤ read_bytes }
+    requires out_bytes_in_bounds { out_bytes ≤ length out.old }
+    requires lengths { T (proper (holds lent.old)) }
+    ensures within { result.length ≤ length out.old }
+    ensures heard { Hears st bytes.now (state_of session (had lent)) out.old
+        result.length out.new (state_of result.session (has lent)) }
+    ensures lengths { T (proper (has lent)) }
+    ensures same { Same lent }
+{
+    hear(session, st, bytes, lent, out)
+}
+
 // Reads once, has what came heard, be it nothing, keeps the memories and then writes what is said: it tells whether there may be more to read.
 fn turn<R: System, F: Read, W: Write>(
     rt: &R,
@@ -66,10 +87,10 @@ fn turn<R: System, F: Read, W: Write>(
 {
     let mut input = [0u8; READ_BYTES];
     let n = files::read_once(from, &mut input);
-    let heard = hear(*session, st, &input[..n], lent, out);
+    let heard = take_in(*session, st, &input[..n], lent, out);
     *session = heard.session;
     let end = heard.length;
-    tell(rt, name, lent.shown(), kept, to, &out[..end])?;
+    tell(rt, Ok(()), name, lent.shown(), kept, to, &out[..end])?;
     Ok(0 < n)
 }
 
@@ -88,16 +109,15 @@ fn read_on<R: System, F: Read, W: Write>(
     requires out_bytes_in_bounds { out_bytes ≤ length out.old }
     requires fits { Fits (holds lent.old) kept.old }
     requires kept_2 { Kept name.now (holds lent.old) kept.old }
-    ensures heard { HasHeard st (sitting (state_of session.old (had lent)) out.old)
+    ensures heard { HasHeard st most_reads (sitting (state_of session.old (had lent)) out.old)
         (sitting (state_of session.new (has lent)) out.new) }
     ensures kept { OnOk result (Kept name.now (has lent) kept.new) }
     ensures same { Same lent }
 {
-    for _ in 0..MOST {
+    let mut turns = MOST;
+    while 0 < turns {
         let more = turn(rt, session, st, name, from, to, lent, out, kept)?;
-        if !more {
-            return Ok(());
-        }
+        turns = left(turns, more);
     }
     Ok(())
 }
@@ -144,10 +164,5 @@ pub fn run<R: System, F: Read, W: Write>(rt: &R, st: bool, name: &[u8], from: &m
         return; // why is said
     }
     let mut out = room();
-    let mut lent = Lent {
-        flash: &mut flash,
-        sram: &mut sram,
-        usd: &mut usd,
-    };
     let _ = sit(rt, st, name, from, to, &mut lent, &mut out, &mut kept);
 }

@@ -19,6 +19,11 @@ loop-turns-init g c = (
 pub turn-requires-clause-fits : goal.turn-requires-clause-fits
 turn-requires-clause-fits g c = fits_again c.requires.fits c.loop-turns.invariant.5 c.loop-turns.auto.kept
 
+pub returns-in_err-more-clause-heard : goal.returns-in_err-more-clause-heard
+returns-in_err-more-clause-heard g c =
+    let i = c.loop-turns.invariant in
+    one_more i.2 c.turn.ensures.heard (omega (arith, c.loop-turns-test.true, i.1))
+
 pub loop-turns-preserved : goal.loop-turns-preserved
 loop-turns-preserved g c =
     let i = c.loop-turns.invariant in
@@ -27,7 +32,7 @@ loop-turns-preserved g c =
     let less = fewer _ _ _ c.loop-turns-test.true (left.going, left.ended) in (
       e.ready,
       omega (arith, e.few, less, i.1),
-      one_more (omega (arith, less, i.1)) i.2 e.heard,
+      one_more i.2 e.heard (omega (arith, less, i.1)),
       search rules,
       still_lent i.4 e.same,
       e.lengths,

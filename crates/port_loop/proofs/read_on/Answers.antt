@@ -1,26 +1,27 @@
 -- A turn heard one read more, and kept what it left where all was told.
-use Rattle.std.proofs.Common.{refl}
+use Rattle.std.proofs.Common.{refl, arith, rules}
+use Rattle.keeping.proofs.Counting.{fewer}
 use Rattle.keeping.proofs.Rooms.{proper_fit, fits_again}
 use Rattle.keeping.proofs.Lending.{still_lent}
 use Rattle.port_loop.proofs.Reading.{nothing_read, one_more}
 use Rattle.port_loop.proofs.read_on.Goals as goal
 
-pub loop-init : goal.loop-init
-loop-init g c = (nothing_read _, c.requires.kept_2, record { flash = refl; sram = refl; usd = refl }, proper_fit c.requires.fits)
+pub loop-turns-init : goal.loop-turns-init
+loop-turns-init g c =
+    (omega arith, nothing_read _, c.requires.kept_2, record { flash = refl; sram = refl; usd = refl }, proper_fit c.requires.fits)
 
 pub turn-requires-clause-fits : goal.turn-requires-clause-fits
-turn-requires-clause-fits g c = fits_again c.requires.fits c.loop.invariant.3 c.loop.auto.kept
+turn-requires-clause-fits g c = fits_again c.requires.fits c.loop-turns.invariant.4 c.loop-turns.auto.kept
 
 pub returns-in_err-more-clause-heard : goal.returns-in_err-more-clause-heard
-returns-in_err-more-clause-heard g c = one_more c.loop.invariant.0 c.turn.ensures.heard
+returns-in_err-more-clause-heard g c =
+    let i = c.loop-turns.invariant in
+    one_more i.1 c.turn.ensures.heard (omega (arith, c.loop-turns-test.true, i.0))
 
-pub returns-then-not-more-clause-heard : goal.returns-then-not-more-clause-heard
-returns-then-not-more-clause-heard g c = one_more c.loop.invariant.0 c.turn.ensures.heard
-
-pub loop-preserved : goal.loop-preserved
-loop-preserved g c = (
-  one_more c.loop.invariant.0 c.turn.ensures.heard,
-  c.in_ok-more.ensures.kept,
-  still_lent c.loop.invariant.2 c.turn.ensures.same,
-  c.turn.ensures.lengths,
-)
+pub loop-turns-preserved : goal.loop-turns-preserved
+loop-turns-preserved g c =
+    let i = c.loop-turns.invariant in
+    let e = c.turn.ensures in
+    let left = c.left-turns.ensures in
+    let less = fewer _ _ _ c.loop-turns-test.true (left.going, left.ended) in
+    (omega (arith, less, i.0), one_more i.1 e.heard (omega (arith, less, i.0)), search rules, still_lent i.3 e.same, e.lengths)
