@@ -43,13 +43,7 @@ fn room() -> [u8; OUT_CHARACTERS]
 }
 
 // Has what came heard, be it nothing, and leaves the memories their lengths.
-fn take_in(
-    desk: Desk,
-    text: &[u8],
-    line: &mut [u8],
-    lent: &mut Lent<'_>,
-    out: &mut [u8],
-) -> Desk
+fn take_in(desk: Desk, text: &[u8], line: &mut [u8], lent: &mut Lent<'_>, out: &mut [u8]) -> Desk
     requires ready { Ready desk line.old out.old }
     requires text_len { length text.now ≤ read_characters }
     requires read_characters_bound { desk.lines + read_characters < 2 ^ 64 }

@@ -45,13 +45,7 @@ fn room() -> [u8; OUT_BYTES]
 }
 
 // Has what came heard, be it nothing, and leaves the memories their lengths.
-fn take_in(
-    session: Session,
-    st: bool,
-    bytes: &[u8],
-    lent: &mut Lent<'_>,
-    out: &mut [u8],
-) -> Heard
+fn take_in(session: Session, st: bool, bytes: &[u8], lent: &mut Lent<'_>, out: &mut [u8]) -> Heard
     requires bytes_len { length bytes.now ≤ read_bytes }
     requires out_bytes_in_bounds { out_bytes ≤ length out.old }
     requires lengths { T (proper (holds lent.old)) }

@@ -12,7 +12,7 @@ invariant-loop-turns g l =
     Ready l.desk l.line l.out
     × (l.desk.lines + read_characters * l.turns ≤ 2 ^ 63)
     × HasHeard (most_characters - read_characters * l.turns)
-      (desk_of l.initial.desk l.initial.line (holds l.initial.lent)) (desk_of l.desk l.line (holds l.lent))
+    (desk_of l.initial.desk l.initial.line (holds l.initial.lent)) (desk_of l.desk l.line (holds l.lent))
     × Kept l.name (holds l.lent) l.kept
     × StillLent l.initial.lent l.lent
     × T (proper (holds l.lent))

@@ -11,7 +11,7 @@ abbrev pub invariant-loop-turns : goal.invariant-loop-turns
 invariant-loop-turns g l =
     (l.turns ≤ most_reads)
     × HasHeard l.st (most_reads - l.turns) (sitting (state_of l.initial.session (holds l.initial.lent)) l.initial.out)
-      (sitting (state_of l.session (holds l.lent)) l.out)
+    (sitting (state_of l.session (holds l.lent)) l.out)
     × Kept l.name (holds l.lent) l.kept
     × StillLent l.initial.lent l.lent
     × T (proper (holds l.lent))
