@@ -13,11 +13,10 @@ use loading::judging;
 fn bytes(touched: &[u8]) -> usize
     ensures { result ≡ count_by (eqb mark) touched.now }
 {
-    let mut count = 0;
-    for byte in touched {
-        count += usize::from(judging::MARK == *byte);
-    }
-    count
+    touched
+        .iter()
+        .filter(|byte| judging::MARK == **byte)
+        .count()
 }
 
 // Whether some byte of a sector is marked.
