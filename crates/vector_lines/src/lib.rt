@@ -5,4 +5,4 @@ pub mod report;
 pub mod vector;
 
 // Where the bytes begin in the line of a vector or of an answer.
-const FIELDS: usize = 1;
+pub const FIELDS: usize = 1;

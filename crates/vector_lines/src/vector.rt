@@ -14,29 +14,29 @@ use std::io::Read;
 use words::FIELD;
 
 // How many bytes a vector has, and where its parts stand: first a session's numbers, as they are lent.
-const BYTES: usize = 83;
+pub const BYTES: usize = 83;
 
 const STAGED: usize = session_bytes::STAGED;
 
 const STAGED_FRONT: usize = 25;
 
-const FLASH: usize = 41;
+pub const FLASH: usize = 41;
 
-const SRAM: usize = 47;
+pub const SRAM: usize = 47;
 
-const USD: usize = 53;
+pub const USD: usize = 53;
 
 const PROTECTION: usize = 59;
 
 const SECTORS: usize = 60;
 
-const BUFFER: usize = 64;
+pub const BUFFER: usize = 64;
 
-const BYTE: usize = 69;
+pub const BYTE: usize = 69;
 
-const FRAME_LENGTH: usize = 70;
+pub const FRAME_LENGTH: usize = 70;
 
-const FRAME: usize = 71;
+pub const FRAME: usize = 71;
 
 const FRAME_BYTES: usize = BYTES - FRAME;
 
