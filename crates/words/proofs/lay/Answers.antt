@@ -1,7 +1,13 @@
--- The bytes stand in the place of as many.
+-- Each turn lays one byte more.
 use native.Mathlib.Omega.{arith}
-use Rattle.words.proofs.Over.{put_part}
+use mathlib.Core.Path.{sym}
+use Rattle.words.specs.Over.{newer}
+use Rattle.words.proofs.Over.{over_none, over_more}
 use Rattle.words.proofs.lay.Goals as goal
 
-pub returns : goal.returns
-returns c = rw c.copy_from_slice.ensures.after (put_part c.args.memory.now c.args.at _ c.args.bytes.now (omega arith) (omega arith))
+pub loop-i-init : goal.loop-i-init
+loop-i-init c = sym (over_none newer c.args.memory.now c.args.at)
+
+pub loop-i-preserved : goal.loop-i-preserved
+loop-i-preserved c =
+    rw c.loop-i.invariant (over_more newer c.args.memory.now c.args.at c.args.bytes.now c.loop-i.i (omega arith) (omega arith))
