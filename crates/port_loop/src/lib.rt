@@ -109,6 +109,7 @@ fn read_on<R: System, F: Read, W: Write>(
     ensures same { Same lent }
 {
     let mut turns = MOST;
+    // Kept: of a `for` over the reads nothing states what `left` does of each, that some are left exactly where something came.
     while 0 < turns {
         let more = turn(rt, session, st, name, from, to, lent, out, kept)?;
         turns = left(turns, more);
