@@ -9,9 +9,9 @@ use vector_lines::vector::{Input, Vector};
 // How many vectors are read at most, a number that no run uses up.
 const TURNS: u64 = 0x0008_0000_0000_0000;
 
-// Reads a vector, makes its call and prints what that left, if there was one and it could.
-fn turn<F: Read, W: Write>(from: &mut F, to: &mut W) -> Option<()> {
-    let vector = Vector::read(from)?;
+// Makes the call of a vector in rooms that are larger, and prints what it left. Rooms are cleared as a function begins: behind an early return they
+// would be so twice.
+fn answer<W: Write>(to: &mut W, vector: &Vector) -> std::io::Result<()> {
     let mut flash = io::large_buffer();
     let mut sram = io::large_buffer();
     let mut usd = io::buffer();
@@ -27,7 +27,13 @@ fn turn<F: Read, W: Write>(from: &mut F, to: &mut W) -> Option<()> {
         Input::Byte(byte) => before.take_byte(byte, &mut lent, buffer),
         Input::Frame(frame) => before.take_frame(frame, &mut lent, buffer),
     };
-    report::report(to, taken, lent.shown(), buffer).ok()
+    report::report(to, taken, lent.shown(), buffer)
+}
+
+// Reads a vector and answers it, if there was one and it could.
+fn turn<F: Read, W: Write>(from: &mut F, to: &mut W) -> Option<()> {
+    let vector = Vector::read(from)?;
+    answer(to, &vector).ok()
 }
 
 fn main(rt: HostRuntime) {
