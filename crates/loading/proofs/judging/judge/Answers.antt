@@ -3,7 +3,7 @@ use Rattle.std.proofs.Common.{◌≡◌, ◌+◌, ◌-◌, Some, None, Ok, Err, 
 use Rattle.std.proofs.lemmas.Int.{to_z-of_z}
 use Rattle.std.specs.Result.{result_ok}
 use Rattle.loading.specs.declared.Cause.TheVariants.{BadLine}
-use Rattle.loading.proofs.Faults.{bad_line_lem, behind_the_end, bad_checksum, by_place}
+use Rattle.loading.proofs.Faults.{bad_line_verdict, behind_the_end, bad_checksum, by_place}
 use Rattle.loading.proofs.Places.{room}
 use Rattle.loading.proofs.judging.judge.Goals as goal
 
@@ -15,7 +15,7 @@ returns-in_err-read c =
     let a = c.args in
     let n : a.read ≡ None = grind arith in
     let e : c.from_residual.result ≡ Err BadLine = grind arith in
-    rw n (e ∙ bad_line_lem a.shift a.ended a.touched.now)
+    rw n (e ∙ bad_line_verdict a.shift a.ended a.touched.now)
 
 pub returns-then-not-right : goal.returns-then-not-right
 returns-then-not-right c =
