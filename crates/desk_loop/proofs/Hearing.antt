@@ -17,7 +17,7 @@ use Rattle.desk_answers.specs.Desk.{Desk, hears, input_ends}
 use Rattle.desk_answers.specs.Promise.{Tells}
 use Rattle.desk_answers.proofs.Whole.{hears_parts}
 use Rattle.desk_hearing.specs.Promise.{desk_of}
-use Rattle.desk_loop.specs.Turns.{read_characters, most_characters, Turns, desk_at, HasHeard, LeftBy}
+use Rattle.desk_loop.specs.Turns.{read_characters, Turns, desk_at, HasHeard, LeftBy}
 
 -- a desk that sits down at a board, just powered
 pub sits_down : (why : Bool) (s : Session) (line : List ℕ) (m : Memories) → s ≡ fresh
@@ -52,9 +52,9 @@ one_more {b = b} h t fits = record {
       ∙ sym (ap (λ (r : Told Desk). r.state) (hears_parts h.text t.text b));
 }
 
--- the end of the input
-pub gets_up : {why : Bool} {m : Memories} {b d e : Desk} → b ≡ desk_at why m → HasHeard most_characters b d → e ≡ (input_ends d).state
-    → LeftBy why m e
+-- the end of the input, whatever was heard
+pub gets_up : {most : ℕ} {why : Bool} {m : Memories} {b d e : Desk} → b ≡ desk_at why m → HasHeard most b d → e ≡ (input_ends d).state
+    → LeftBy most why m e
 gets_up s h p = record {
   text = h.text;
   few = h.few;

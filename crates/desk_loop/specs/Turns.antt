@@ -48,8 +48,9 @@ pub record HasHeard (most : ℕ) (before d : D.Desk) : Type 0 where
   pub few : length text ≤ most
   pub desk : d ≡ (hears text before).state
 
--- a desk, asked for reasons or not, is what a board that began with these memories, just powered, becomes by some text and the end of the input
-pub record LeftBy (why : Bool) (m : Memories) (d : D.Desk) : Type 0 where
+-- a desk, asked for reasons or not, is what a board that began with these memories, just powered, becomes by some text of at most so many characters
+-- and the end of the input
+pub record LeftBy (most : ℕ) (why : Bool) (m : Memories) (d : D.Desk) : Type 0 where
   pub text : List ℕ
-  pub few : length text ≤ most_characters
+  pub few : length text ≤ most
   pub desk : d ≡ (hears text (desk_at why m) then input_ends).state

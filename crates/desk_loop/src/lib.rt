@@ -167,7 +167,7 @@ fn sit<R: System, F: Read, W: Write>(
     requires begins { Begins name.now (holds lent.old) }
     requires fits { Fits (holds lent.old) kept.old }
     requires kept_2 { Kept name.now (holds lent.old) kept.old }
-    ensures left { LeftBy why (had lent) (desk_of result.0 line.new (has lent)) }
+    ensures left { LeftBy most_characters why (had lent) (desk_of result.0 line.new (has lent)) }
     ensures kept { OnOk result.1 (Kept name.now (has lent) kept.new) }
     ensures same { Same lent }
 {

@@ -14,7 +14,7 @@ use Rattle.boot.specs.Calls.{State}
 use Rattle.boot.specs.Promise.{state_of}
 use Rattle.boot.specs.declared.Session.{Session}
 use Rattle.port_loop.specs.Port.{Hears}
-use Rattle.port_loop.specs.Turns.{read_bytes, most_reads, Sitting, sitting, reading, Turns, HasHeard, LeftBy}
+use Rattle.port_loop.specs.Turns.{read_bytes, Sitting, sitting, reading, Turns, HasHeard, LeftBy}
 
 -- bytes that were read and heard
 pub turned : {st : Bool} (bytes : List ℕ) {before after : State} {lent left : List ℕ} {end : ℕ} {going : Result Bool Untold} → length bytes ≤ read_bytes
@@ -37,9 +37,9 @@ one_more {st} {o = o} h t fits = record {
       ∙ sym (foldl-append (reading st) o h.reads (t.bytes ∷ []));
 }
 
--- a board that was just powered
-pub left_by : {st : Bool} (m : Memories) (s : Session) {lent : List ℕ} {q : Sitting} → s ≡ fresh
-    → HasHeard st most_reads (sitting (state_of s m) lent) q → LeftBy st m lent q
+-- a board that was just powered, whatever it has read
+pub left_by : {st : Bool} {most : ℕ} (m : Memories) (s : Session) {lent : List ℕ} {q : Sitting} → s ≡ fresh
+    → HasHeard st most (sitting (state_of s m) lent) q → LeftBy st most m lent q
 left_by {st} m s {lent} e h = record {
   reads = h.reads;
   few = h.few;

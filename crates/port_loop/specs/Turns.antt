@@ -46,8 +46,8 @@ pub record HasHeard (st : Bool) (most : ℕ) (before after : Sitting) : Type 0 w
   pub few : length reads ≤ most
   pub left : after ≡ foldl (reading st) before reads
 
--- what read after read has left, of a board that began with these memories, just powered
-pub record LeftBy (st : Bool) (m : Memories) (lent : List ℕ) (after : Sitting) : Type 0 where
+-- what at most so many reads have left, of a board that began with these memories, just powered
+pub record LeftBy (st : Bool) (most : ℕ) (m : Memories) (lent : List ℕ) (after : Sitting) : Type 0 where
   pub reads : List (List ℕ)
-  pub few : length reads ≤ most_reads
+  pub few : length reads ≤ most
   pub left : after ≡ foldl (reading st) (sitting (powered m) lent) reads

@@ -132,7 +132,7 @@ fn sit<R: System, F: Read, W: Write>(
     requires begins { Begins name.now (holds lent.old) }
     requires fits { Fits (holds lent.old) kept.old }
     requires kept_2 { Kept name.now (holds lent.old) kept.old }
-    ensures left { LeftBy st (had lent) out.old
+    ensures left { LeftBy st most_reads (had lent) out.old
         (sitting (state_of result.0 (has lent)) out.new) }
     ensures kept { OnOk result.1 (Kept name.now (has lent) kept.new) }
     ensures same { Same lent }
